@@ -1,0 +1,97 @@
+-- The laws of `sum` and `count`.
+-- Assumes nothing.
+use mathlib.Core.Path.{_≡_, refl, ap, ap₂, _∙_}
+use mathlib.Core.Logic.{_≢_, inl, inr}
+use mathlib.Core.Bool.{Bool, true, false}
+use Prim.Native.Nat.{ℕ, zero, suc, _+_, _*_, _≤_, _<_}
+use native.Mathlib.Nat.{not-suc-le-zero, le-refl}
+use native.Mathlib.Omega.{arith}
+use Rattle.bounded.specs.Bounded.{one, sum, count}
+use Rattle.bounded.proofs.Bools.{which, last?, one-le}
+
+-- ---- sums
+
+pub sum-eq : (f g : ℕ → ℕ) (n : ℕ) → ((i : ℕ) → i < n → f i ≡ g i) → sum f n ≡ sum g n
+unfolding sum
+sum-eq f g zero eq = refl
+sum-eq f g (suc n) eq = omega (arith, sum-eq f g n (λ i l. eq i (omega arith)), eq n (le-refl (suc n)))
+
+pub sum-mono : (f g : ℕ → ℕ) (n : ℕ) → ((i : ℕ) → i < n → f i ≤ g i) → sum f n ≤ sum g n
+unfolding sum
+sum-mono f g zero le = omega arith
+sum-mono f g (suc n) le = omega (arith, sum-mono f g n (λ i l. le i (omega arith)), le n (le-refl (suc n)))
+
+pub sum-add : (f g : ℕ → ℕ) (n : ℕ) → sum (λ i. f i + g i) n ≡ sum f n + sum g n
+unfolding sum
+sum-add f g zero = refl
+sum-add f g (suc n) = omega (arith, sum-add f g n)
+
+pub sum-le : (f g h : ℕ → ℕ) (n : ℕ) → ((i : ℕ) → i < n → f i ≤ g i + h i) → sum f n ≤ sum g n + sum h n
+sum-le f g h n le = omega (arith, sum-mono f (λ i. g i + h i) n le, sum-add g h n)
+
+pub sum-times : (k : ℕ) (f : ℕ → ℕ) (n : ℕ) → sum (λ i. k * f i) n ≡ k * sum f n
+unfolding sum
+sum-times k f zero = omega arith
+sum-times k f (suc n) = omega (arith, sum-times k f n)
+
+pub sum-zero : (f : ℕ → ℕ) (n : ℕ) → ((i : ℕ) → i < n → f i ≡ 0) → sum f n ≡ 0
+unfolding sum
+sum-zero f zero e = refl
+sum-zero f (suc n) e = omega (arith, sum-zero f n (λ i l. e i (omega arith)), e n (le-refl (suc n)))
+
+-- one entry changes
+pub sum-one : (f g : ℕ → ℕ) (n x : ℕ) → x < n → ((i : ℕ) → i ≢ x → f i ≡ g i) → sum f n + g x ≡ sum g n + f x
+unfolding sum
+sum-one f g zero x h eq = absurd (not-suc-le-zero h)
+sum-one f g (suc n) x h eq = elim (last? h) [
+  | inl p ↦ rw p (omega (arith, sum-eq f g n (λ i l. eq i (omega arith))))
+  | inr l ↦ omega (arith, sum-one f g n x l eq, eq n (omega arith))
+]
+
+-- ---- counts
+
+-- a count is a sum of ones
+pub count-sum : (f : ℕ → Bool) (n : ℕ) → count f n ≡ sum (λ i. one (f i)) n
+unfolding count sum
+count-sum f zero = refl
+count-sum f (suc n) = omega (arith, count-sum f n)
+
+pub count-ext : (f g : ℕ → Bool) (n : ℕ) → ((i : ℕ) → i < n → f i ≡ g i) → count f n ≡ count g n
+unfolding count
+count-ext f g zero h = refl
+count-ext f g (suc n) h = ap₂ (λ (a : ℕ) (b : Bool). a + one b) (count-ext f g n (λ i l. h i (omega arith))) (h n (le-refl (suc n)))
+
+pub count-le : (f : ℕ → Bool) (n : ℕ) → count f n ≤ n
+unfolding count
+count-le f zero = omega arith
+count-le f (suc n) = omega (arith, count-le f n, one-le (f n))
+
+-- a member counts once: those below it are fewer than those below a larger bound
+pub count-lt : (f : ℕ → Bool) (n i : ℕ) → i < n → f i ≡ true → count f i < count f n
+unfolding count
+count-lt f zero i h e = absurd (not-suc-le-zero h)
+count-lt f (suc n) i h e = elim (last? h) [
+  | inl p ↦ (let q : f n ≡ true = rw p at e in rw (p, q) (omega arith))
+  | inr l ↦ omega (arith, count-lt f n i l e)
+]
+
+one-mono : (a b : Bool) → (a ≡ true → b ≡ true) → one a ≤ one b
+one-mono true b h = rw (h refl) (le-refl 1)
+one-mono false b h = omega arith
+
+pub count-mono : (f g : ℕ → Bool) (n : ℕ) → ((i : ℕ) → i < n → f i ≡ true → g i ≡ true) → count f n ≤ count g n
+unfolding count
+count-mono f g zero h = omega arith
+count-mono f g (suc n) h = omega (arith, count-mono f g n (λ i l. h i (omega arith)), one-mono (f n) (g n) (h n (le-refl (suc n))))
+
+-- a part that lacks one is smaller
+pub count-less : (f g : ℕ → Bool) (n j : ℕ) → j < n → f j ≡ false → g j ≡ true → ((i : ℕ) → i < n → f i ≡ true → g i ≡ true) → count f n < count g n
+unfolding count
+count-less f g zero j h p q m = absurd (not-suc-le-zero h)
+count-less f g (suc n) j h p q m = elim (last? h) [
+  | inl e ↦
+      (let p′ : f n ≡ false = rw e at p in
+      let q′ : g n ≡ true = rw e at q in
+      rw (p′, q′) (omega (arith, count-mono f g n (λ i l. m i (omega arith)))))
+  | inr l ↦ omega (arith, count-less f g n j l p q (λ i k. m i (omega arith)), one-mono (f n) (g n) (m n (le-refl (suc n))))
+]
