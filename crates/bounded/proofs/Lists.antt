@@ -91,4 +91,3 @@ module _ (f : ℕ → ℕ) where
   pub table-is : (n : ℕ) (l : List ℕ) → length l ≡ n → ((i : ℕ) → i < n → getD l i 0 ≡ f i) → l ≡ table f n
   table-is n l e h =
       ext-getD 0 l (table f n) (e ∙ sym (table-length n)) (λ i k. let k′ : i < n = rw e at k in h i k′ ∙ sym (table-at n i k′))
-

@@ -1,0 +1,5 @@
+pub mod Members
+pub mod Gather
+pub mod Operations
+pub mod Table
+pub mod Arrays

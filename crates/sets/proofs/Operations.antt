@@ -1,0 +1,113 @@
+-- What the code's operations on sets are, in members.
+-- Assumes nothing.
+use mathlib.Core.Path.{_≡_, refl, sym, ap, _∙_}
+use mathlib.Core.Logic.{⊎-elim}
+use mathlib.Core.Bool.{Bool, true, false, not, _&&_, _||_}
+use Prim.Native.Nat.{ℕ, zero, suc, _+_, _-_, _*_, _/_, _%_, _^_, _<_, suc-le-suc}
+use native.Mathlib.Nat.{mod-lt, lt-of-le-of-lt, not-suc-le-zero, le-of-suc-le-suc}
+use native.Mathlib.Omega.{arith}
+use borrow.Author.Tests.{eqb-true, eq-eqb, ne-eqb}
+use lib.Dec.{eqb}
+use lib.Pow.{pow-pos, pow-lt, pow-add}
+use lib.Bits.{bitAnd, bitOr, bitXor, and-high, and-le-l, or-lt, xor-lt}
+use lib.Count.{trailingZeros, under}
+use Rattle.bounded.specs.Bounded.{imp, any, all, first}
+use Rattle.bounded.proofs.Bools.{which, clash, same-test, not-t}
+use Rattle.bounded.proofs.Tests.{all-i, all-e, any-n, any-e}
+use Rattle.bounded.proofs.First.{Least, first-is}
+use Rattle.sets.specs.Sets.{member, inserted, insert, only, without, kept, subsetOf, apart, disjointFrom}
+use Rattle.sets.proofs.Members.{two-pos, binary, unlike, member-and, member-or, member-xor, member-zero, member-power, member-suc, low-digit, same-set}
+use Rattle.sets.proofs.Gather.{gather-is, member-gather}
+
+-- `s & 2 ^ i` is 0 where i is no member
+pub has-bit : (s i : ℕ) → not (eqb (bitAnd s (2 ^ i)) 0) ≡ member s i
+unfolding member
+has-bit s i =
+    ap (λ (x : ℕ). not (eqb x 0)) (ap (bitAnd s) plain ∙ and-high s 1 i)
+    ∙ ⊎-elim (λ (p : s / 2 ^ i % 2 ≡ 0). rw p (ap not (eq-eqb (0 * 2 ^ i) 0 (omega arith))))
+    (λ (p : s / 2 ^ i % 2 ≡ 1). rw p (ap not (ne-eqb (1 * 2 ^ i) 0 (λ q. omega (arith, pow-pos i))))) (binary (mod-lt (s / 2 ^ i) two-pos))
+  where
+    plain : 2 ^ i ≡ 2 ^ (1 + i) - 2 ^ i
+    plain = omega (arith, pow-add 2 1 i)
+
+-- `s | 2 ^ i` puts i in
+pub put-bit : (s i : ℕ) → i < 64 → s < 2 ^ 64 → bitOr s (2 ^ i) ≡ insert s i
+unfolding insert inserted
+put-bit s i h hs =
+    gather-is (inserted s i) 64 (bitOr s (2 ^ i)) (or-lt 64 s (2 ^ i) hs (pow-lt h))
+    (λ j l. member-or s (2 ^ i) j ∙ ap (λ (b : Bool). member s j || b) (member-power i j))
+
+pub member-insert : (s i j : ℕ) → j < 64 → member (insert s i) j ≡ member s j || eqb j i
+unfolding insert inserted
+member-insert s i j h = member-gather (inserted s i) 64 j h
+
+-- `a ^ (a & b)` leaves the members of a that b lacks
+only-test : (p q : Bool) → unlike p (p && q) ≡ p && not q
+only-test true q = refl
+only-test false q = refl
+
+pub xor-without : (a b : ℕ) → a < 2 ^ 64 → bitXor a (bitAnd a b) ≡ without a b
+unfolding without only
+xor-without a b ha =
+    gather-is (only a b) 64 (bitXor a (bitAnd a b)) (xor-lt 64 a (bitAnd a b) ha (lt-of-le-of-lt (and-le-l a b) ha))
+    (λ i l. member-xor a (bitAnd a b) i ∙ ap (unlike (member a i)) (member-and a b i) ∙ only-test (member a i) (member b i))
+
+pub member-without : (a b i : ℕ) → i < 64 → member (without a b) i ≡ member a i && not (member b i)
+unfolding without only
+member-without a b i h = member-gather (only a b) 64 i h
+
+part-test : (p q : Bool) → p && q ≡ p → imp p q ≡ true
+part-test true q e = e
+part-test false q e = refl
+
+test-part : (p q : Bool) → imp p q ≡ true → p && q ≡ p
+test-part true q e = e
+test-part false q e = refl
+
+-- `a & b == a` where a is part of b
+pub and-subset : (a b : ℕ) → a < 2 ^ 64 → eqb (bitAnd a b) a ≡ subsetOf a b
+unfolding subsetOf kept
+and-subset a b ha =
+    same-test (eqb (bitAnd a b) a) (all (kept a b) 64)
+    (λ e. all-i (kept a b) 64 (λ i l. part-test (member a i) (member b i) (sym (member-and a b i) ∙ ap (λ (x : ℕ). member x i) (eqb-true (bitAnd a b) a e))))
+    (λ e. eq-eqb (bitAnd a b) a (same-set 64 (bitAnd a b) a (lt-of-le-of-lt (and-le-l a b) ha) ha
+    (λ i l. member-and a b i ∙ test-part (member a i) (member b i) (all-e (kept a b) 64 e i l))))
+
+-- `a & b == 0` where they have no member in common
+pub and-disjoint : (a b : ℕ) → a < 2 ^ 64 → eqb (bitAnd a b) 0 ≡ disjointFrom a b
+unfolding disjointFrom apart
+and-disjoint a b ha =
+    same-test (eqb (bitAnd a b) 0) (all (apart a b) 64)
+    (λ e. all-i (apart a b) 64 (λ i l. ap not (sym (member-and a b i) ∙ ap (λ (x : ℕ). member x i) (eqb-true (bitAnd a b) 0 e) ∙ member-zero i)))
+    (λ e. eq-eqb (bitAnd a b) 0 (same-set 64 (bitAnd a b) 0 (lt-of-le-of-lt (and-le-l a b) ha) (omega arith)
+    (λ i l. member-and a b i ∙ not-t (member a i && member b i) (all-e (apart a b) 64 e i l) ∙ sym (member-zero i))))
+
+-- `s == 0` where nothing is a member
+pub zero-empty : (s : ℕ) → s < 2 ^ 64 → eqb s 0 ≡ not (any (member s) 64)
+zero-empty s hs =
+    ⊎-elim (λ (e : any (member s) 64 ≡ true). let w = any-e (member s) 64 e in
+    ne-eqb s 0 (λ q. clash _ (w .2) (ap (λ (x : ℕ). member x (w .0)) q ∙ member-zero (w .0))) ∙ sym (ap not e))
+    (λ (e : any (member s) 64 ≡ false).
+    eq-eqb s 0 (same-set 64 s 0 hs (omega arith) (λ i l. any-n (member s) 64 e i l ∙ sym (member-zero i))) ∙ sym (ap not e))
+    (which (any (member s) 64))
+
+-- the zeros below the lowest set bit lead to the lowest member
+even-before : (s t : ℕ) → s % 2 ≡ 0 → ((j : ℕ) → j < t → member (s / 2) j ≡ false) → (j : ℕ) → j < suc t → member s j ≡ false
+even-before s t e h zero l = low-digit s ∙ ne-eqb (s % 2) 1 (λ q. omega arith)
+even-before s t e h (suc j) l = member-suc s j ∙ h j (le-of-suc-le-suc l)
+
+lowest-step : (k s t : ℕ) → Least (member (s / 2)) k t → Least (member s) (suc k) (under (s % 2) t)
+lowest-step k s t l =
+    ⊎-elim (λ (e : s % 2 ≡ 0).
+    rw e (record { high = suc-le-suc (l .high); before = even-before s t e (l .before); at = λ h. member-suc s t ∙ l .at (le-of-suc-le-suc h) }))
+    (λ (e : s % 2 ≡ 1).
+    rw e (record { high = omega arith; before = λ j h. absurd (not-suc-le-zero h); at = λ h. low-digit s ∙ eq-eqb (s % 2) 1 e }))
+    (binary (mod-lt s two-pos))
+
+lowest-least : (k s : ℕ) → Least (member s) k (trailingZeros k s)
+unfolding trailingZeros
+lowest-least zero s = record { high = omega arith; before = λ j h. absurd (not-suc-le-zero h); at = λ h. absurd (not-suc-le-zero h) }
+lowest-least (suc k) s = lowest-step k s (trailingZeros k (s / 2)) (lowest-least k (s / 2))
+
+pub trailing-first : (s : ℕ) → trailingZeros 64 s ≡ first (member s) 64
+trailing-first s = sym (first-is (member s) 64 (trailingZeros 64 s) (lowest-least 64 s))
