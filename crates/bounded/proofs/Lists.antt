@@ -5,7 +5,7 @@ use mathlib.Core.Logic.{_⊎_, inl, inr, ⊎-elim}
 use mathlib.Core.Bool.{Bool, true, false, cond}
 use mathlib.Core.List.{List, [], _∷_, _++_, append-nil}
 use Prim.Native.Nat.{ℕ, zero, suc, _+_, _≤_, _<_}
-use native.Mathlib.Nat.{not-suc-le-zero}
+use native.Mathlib.Nat.{not-suc-le-zero, le-of-suc-le-suc}
 use native.Mathlib.Omega.{arith}
 use native.Mathlib.Numerals.{add-one}
 use lib.ListN.{length, getD, set, length-append, List·getD-append}
@@ -91,3 +91,12 @@ module _ (f : ℕ → ℕ) where
   pub table-is : (n : ℕ) (l : List ℕ) → length l ≡ n → ((i : ℕ) → i < n → getD l i 0 ≡ f i) → l ≡ table f n
   table-is n l e h =
       ext-getD 0 l (table f n) (e ∙ sym (table-length n)) (λ i k. let k′ : i < n = rw e at k in h i k′ ∙ sym (table-at n i k′))
+
+-- past its end a list reads as 0
+pub getD-past : (l : List ℕ) (i : ℕ) → length l ≤ i → getD l i 0 ≡ 0
+getD-past [] i h = refl
+getD-past (x ∷ l) zero h = absurd (not-suc-le-zero h)
+getD-past (x ∷ l) (suc i) h = getD-past l i (le-of-suc-le-suc h)
+
+pub table-past : (f : ℕ → ℕ) (n i : ℕ) → n ≤ i → getD (table f n) i 0 ≡ 0
+table-past f n i h = getD-past (table f n) i (rw (table-length f n) h)

@@ -1,0 +1,54 @@
+-- One step of the closure, in members, and the laws of the loop over the steps.
+-- Assumes nothing.
+use mathlib.Core.Path.{_≡_, sym, ap, _∙_}
+use mathlib.Core.Logic.{_⊎_, inl, inr, ⊎-elim}
+use mathlib.Core.Bool.{true, false, _&&_, _||_}
+use mathlib.Core.List.{List}
+use Prim.Native.Nat.{ℕ, _+_, _<_}
+use native.Mathlib.Numerals.{add-one}
+use lib.Bits.{bitOr}
+use lib.ListN.{getD}
+use Rattle.bounded.proofs.Bools.{which, or-l, or-r, or-cases, or-false, and-i, and-l, and-r}
+use Rattle.bounded.proofs.Lists.{table-at}
+use Rattle.sets.specs.Sets.{member}
+use Rattle.sets.proofs.Members.{member-or}
+use Rattle.precedence.specs.Precedence.{before, joinedOf, throughAt, throughOf, closureTo}
+
+pub joined-yes : (s via k : ℕ) → member s k ≡ true → bitOr s via ≡ joinedOf s via k
+unfolding joinedOf
+joined-yes s via k e = rw e
+
+pub joined-no : (s via k : ℕ) → member s k ≡ false → s ≡ joinedOf s via k
+unfolding joinedOf
+joined-no s via k e = rw e
+
+joined-member : (u s via k : ℕ) → member (joinedOf s via k) u ≡ member s u || (member s k && member via u)
+joined-member u s via k =
+    ⊎-elim (λ (e : member s k ≡ true). ap (λ (x : ℕ). member x u) (sym (joined-yes s via k e)) ∙ member-or s via u ∙ rw e)
+    (λ (e : member s k ≡ false). ap (λ (x : ℕ). member x u) (sym (joined-no s via k e)) ∙ rw e (sym (or-false (member s u))))
+    (which (member s k))
+
+through-before : (p : List ℕ) (k u v : ℕ) → v < 64 → before (throughOf p k) u v ≡ before p u v || (before p k v && before p u k)
+unfolding before throughOf throughAt
+through-before p k u v h = ap (λ (x : ℕ). member x u) (table-at (throughAt p k) 64 v h) ∙ joined-member u (getD p v 0) (getD p k 0) k
+
+-- a turn of the loop that keeps `p ≡ closureTo d k`
+pub closure-step : (d p : List ℕ) (k : ℕ) → p ≡ closureTo d k → throughOf p k ≡ closureTo d (k + 1)
+unfolding closureTo
+closure-step d p k e = rw (add-one, e)
+
+-- what a step has: u before v already, or both ends of a chain through k
+abbrev pub Step : List ℕ → ℕ → ℕ → ℕ → Type 0
+Step p k u v = (before p u v ≡ true) ⊎ ((before p k v ≡ true) × (before p u k ≡ true))
+
+pub step-cases : (p : List ℕ) (k u v : ℕ) → v < 64 → before (throughOf p k) u v ≡ true → Step p k u v
+step-cases p k u v h e =
+    ⊎-elim (λ x. inl x) (λ x. inr (and-l (before p k v) (before p u k) x, and-r (before p k v) (before p u k) x))
+    (or-cases (before p u v) (before p k v && before p u k) (sym (through-before p k u v h) ∙ e))
+
+pub step-old : (p : List ℕ) (k u v : ℕ) → v < 64 → before p u v ≡ true → before (throughOf p k) u v ≡ true
+step-old p k u v h e = through-before p k u v h ∙ or-l (before p u v) (before p k v && before p u k) e
+
+pub step-new : (p : List ℕ) (k u v : ℕ) → v < 64 → before p k v ≡ true → before p u k ≡ true → before (throughOf p k) u v ≡ true
+step-new p k u v h a b =
+    through-before p k u v h ∙ or-r (before p u v) (before p k v && before p u k) (and-i (before p k v) (before p u k) a b)
