@@ -1,7 +1,7 @@
 -- A set of bookings as a number below 2 ^ 64: the booking at index i, which is booking number i + 1, is a member where bit i is set.
 -- The laws are in proofs/.
 -- Assumes nothing.
-use mathlib.Core.Bool.{Bool, not, _&&_, _||_}
+use mathlib.Core.Bool.{Bool, true, not, _&&_, _||_}
 use Prim.Native.Nat.{ℕ, zero, suc, _+_, _*_, _/_, _%_, _^_}
 use lib.Dec.{eqb}
 use Rattle.bounded.specs.Bounded.{imp, one, all, count}
@@ -14,6 +14,13 @@ member s i = eqb (s / 2 ^ i % 2) 1
 unfoldable pub gather : (ℕ → Bool) → ℕ → ℕ
 gather f zero = zero
 gather f (suc n) = one (f n) * 2 ^ n + gather f n
+
+-- the set of all numbers below n
+unfoldable pub always : ℕ → Bool
+always i = true
+
+unfoldable pub allBelow : ℕ → ℕ
+allBelow n = gather always n
 
 -- the set s with i put in
 unfoldable pub inserted : ℕ → ℕ → ℕ → Bool

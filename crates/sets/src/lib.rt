@@ -1,9 +1,9 @@
 // A set of bookings as the 64 bits of a u64: booking number b is bit b - 1, so its index is its bit.
 // Only `bit` names the table of bits; every other function, here and above, goes through it.
 ghost use mathlib.Core.Path.{_≡_};
-ghost use Prim.Native.Nat.{_<_, _^_};
+ghost use Prim.Native.Nat.{_≤_, _<_, _^_};
 ghost use Rattle.bounded.specs.Bounded.{first};
-ghost use Rattle.sets.specs.Sets.{member, insert, without, subsetOf, disjointFrom, sizeOf};
+ghost use Rattle.sets.specs.Sets.{member, allBelow, insert, without, subsetOf, disjointFrom, sizeOf};
 
 const BIT: [u64; 64] = [
     1,
@@ -78,6 +78,18 @@ pub fn bit(i: usize) -> u64
     ensures { λ r. ⌜ r ≡ 2 ^ i ⌝ }
 {
     BIT[i]
+}
+
+// The set of all indices below n.
+pub fn all_below(n: usize) -> u64
+    requires { ⌜ n ≤ 64 ⌝ }
+    ensures { λ r. ⌜ r ≡ allBelow n ⌝ }
+{
+    if n < 64 {
+        bit(n) - 1
+    } else {
+        18446744073709551615
+    }
 }
 
 // Whether index i is in the set s.
