@@ -1,0 +1,5 @@
+pub mod State
+pub mod Orders
+pub mod Replies
+pub mod Sound
+pub mod Bytes

@@ -1,0 +1,79 @@
+-- Sets made by a test, subsets, sets apart and sets that are not empty, as facts about members. e takes a fact out, i brings one in.
+-- Assumes nothing.
+use mathlib.Core.Path.{_≡_, refl, sym, ap, _∙_}
+use mathlib.Core.Logic.{_⊎_, inl, inr}
+use mathlib.Core.Bool.{Bool, true, false, not, _&&_}
+use Prim.Native.Nat.{ℕ, zero, suc, _+_, _*_, _^_, _≤_, _<_}
+use native.Mathlib.Nat.{zero-mul, zero-add, le-refl}
+use native.Mathlib.Omega.{arith}
+use lib.Dec.{eqb}
+use borrow.Author.Tests.{eqb-true, eqb-false, eq-eqb}
+use Rattle.bounded.specs.Bounded.{imp, one, all}
+use Rattle.bounded.proofs.Bools.{which, clash, off, split?, and-l, and-r, and-i, not-t, not-f, not-i, imp-e, imp-i}
+use Rattle.bounded.proofs.Tests.{all-i, all-e, all-n}
+use Rattle.sets.specs.Sets.{member, gather, kept, subsetOf, apart, disjointFrom}
+use Rattle.sets.proofs.Members.{member-zero}
+use Rattle.sets.proofs.Gather.{member-gather, member-gather-past}
+use Rattle.verdict.specs.Network.{some}
+
+-- ---- the set of what passes a test
+
+pub gather-e : (f : ℕ → Bool) (n i : ℕ) → member (gather f n) i ≡ true → (i < n) × (f i ≡ true)
+gather-e f n i e = elim (split? i n) [
+  | inl h ↦ (h, sym (member-gather f n i h) ∙ e)
+  | inr h ↦ clash (member (gather f n) i) e (member-gather-past f n i h)
+]
+
+pub gather-i : (f : ℕ → Bool) (n i : ℕ) → i < n → f i ≡ true → member (gather f n) i ≡ true
+gather-i f n i h e = member-gather f n i h ∙ e
+
+-- ---- subsets and sets apart
+
+pub subset-e : (a b i : ℕ) → subsetOf a b ≡ true → i < 64 → member a i ≡ true → member b i ≡ true
+unfolding subsetOf kept
+subset-e a b i e h m = imp-e (member a i) (member b i) (all-e (kept a b) 64 e i h) m
+
+pub subset-i : (a b : ℕ) → ((i : ℕ) → i < 64 → member a i ≡ true → member b i ≡ true) → subsetOf a b ≡ true
+unfolding subsetOf kept
+subset-i a b h = all-i (kept a b) 64 (λ i l. imp-i (member a i) (member b i) (h i l))
+
+-- a set is no subset: a member is missing
+pub subset-n : (a b : ℕ) → subsetOf a b ≡ false → (i : ℕ) × (i < 64) × (member a i ≡ true) × (member b i ≡ false)
+unfolding subsetOf kept
+subset-n a b e =
+    let t = all-n (kept a b) 64 e in
+    let i = t .0 in
+    let out : member b i ≡ false = off (member b i) (λ m. clash (kept a b i) (imp-i (member a i) (member b i) (λ q. m)) (t .2)) in
+    let in′ : member a i ≡ true = not-f (member a i) (off (not (member a i)) (λ q. clash (kept a b i) (imp-i (member a i) (member b i) (λ m. clash (member a i) m (not-t (member a i) q))) (t .2))) in
+    (i, t .1, in′, out)
+
+-- not apart: a common member
+pub meet-i : (a b i : ℕ) → i < 64 → member a i ≡ true → member b i ≡ true → not (disjointFrom a b) ≡ true
+unfolding disjointFrom apart
+meet-i a b i h p q =
+    not-i _ (off (disjointFrom a b) (λ e. clash (member a i && member b i) (and-i _ _ p q) (not-t (member a i && member b i) (all-e (apart a b) 64 e i h))))
+
+pub meet-e : (a b : ℕ) → not (disjointFrom a b) ≡ true → (i : ℕ) × (i < 64) × (member a i ≡ true) × (member b i ≡ true)
+unfolding disjointFrom apart
+meet-e a b e =
+    let t = all-n (apart a b) 64 (not-t (disjointFrom a b) e) in
+    let m = not-f (member a (t .0) && member b (t .0)) (t .2) in
+    (t .0, t .1, and-l (member a (t .0)) _ m, and-r (member a (t .0)) _ m)
+
+-- ---- not empty
+
+pub some-i : (s i : ℕ) → member s i ≡ true → some s ≡ true
+unfolding some
+some-i s i e = not-i _ (off (eqb s 0) (λ z. clash (member s i) e (ap (λ (t : ℕ). member t i) (eqb-true s 0 z) ∙ member-zero i)))
+
+pub some-e : (f : ℕ → Bool) (n : ℕ) → some (gather f n) ≡ true → (i : ℕ) × (i < n) × (f i ≡ true)
+unfolding gather some
+some-e f zero e = clash false e refl
+some-e f (suc n) e = elim (which (f n)) [
+  | inl p ↦ (n, le-refl (suc n), p)
+  | inr p ↦ (let t = some-e f n (rw (p, zero-mul, zero-add) at e) in (t .0, omega arith, t .2))
+]
+
+-- an empty set has no member
+pub some-n : (f : ℕ → Bool) (n i : ℕ) → some (gather f n) ≡ false → i < n → f i ≡ false
+some-n f n i e h = off (f i) (λ p. clash (some (gather f n)) (some-i (gather f n) i (gather-i f n i h p)) e)
