@@ -1,0 +1,5 @@
+pub mod Answers
+pub mod Machine
+pub mod Calls
+pub mod Counted
+pub mod Demand
