@@ -3,3 +3,8 @@ pub mod Switch
 pub mod Reply
 pub mod Next
 pub mod Start
+pub mod Potential
+pub mod Moved
+pub mod Ends
+pub mod Bytes
+pub mod Whole

@@ -3,3 +3,4 @@ pub mod Machine
 pub mod Calls
 pub mod Counted
 pub mod Demand
+pub mod Guarantee
