@@ -1,11 +1,9 @@
 -- The calls on bytes answer as the plain machine does, and leave its states, for every list of calls from a sound state.
 -- Assumes nothing.
 use mathlib.Core.Path.{_≡_, refl, ap, ap₂, _∙_}
-use mathlib.Core.Bool.{Bool, true, _&&_, cond}
+use mathlib.Core.Bool.{true}
 use mathlib.Core.List.{List, [], _∷_, map}
 use Prim.Native.Nat.{ℕ, suc}
-use lib.Dec.{eqb}
-use lib.ListN.{length}
 use borrow.Author.Tests.{eq-eqb}
 use Rattle.bounded.proofs.Bools.{_&_}
 use Rattle.verdict.specs.declared.Network.{Network}

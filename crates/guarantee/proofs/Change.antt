@@ -1,17 +1,17 @@
 -- One booking's code changes and the way stays: what keeps a state sound.
 -- Assumes nothing.
-use mathlib.Core.Path.{_≡_, refl, sym, ap, _∙_}
-use mathlib.Core.Logic.{_≢_, _⊎_, inl, inr}
-use mathlib.Core.Bool.{Bool, true, false}
-use Prim.Native.Nat.{ℕ, zero, suc, _+_, _≤_, _<_}
+use mathlib.Core.Path.{_≡_, _∙_}
+use mathlib.Core.Logic.{_≢_, inl, inr}
+use mathlib.Core.Bool.{true, false}
+use Prim.Native.Nat.{ℕ, suc, _≤_, _<_}
 use native.Mathlib.Omega.{arith}
-use lib.ListN.{length, length-set}
+use lib.ListN.{length-set}
 use lib.Seq.{getD-set-same, getD-set-other}
 use Rattle.bounded.proofs.Bools.{clash, same?}
 use Rattle.verdict.specs.Network.{inWay, pre, firm, exposed, returnable}
 use Rattle.verdict.specs.declared.Network.{Network}
 use Rattle.verdict.proofs.Facts.{Passes}
-use Rattle.run.specs.State.{code, put, live}
+use Rattle.run.specs.State.{code, put}
 use Rattle.run.specs.declared.Run.{Run}
 use Rattle.run.proofs.Facts.{Core, live-later}
 

@@ -1,11 +1,10 @@
 -- What the kind of next order's answer says about the state.
 -- Assumes nothing.
-use mathlib.Core.Path.{_≡_, refl, sym, ap, _∙_}
-use mathlib.Core.Logic.{_≢_, _⊎_, inl, inr}
-use mathlib.Core.Bool.{Bool, true, false, _||_}
-use Prim.Native.Nat.{ℕ, zero, suc, _+_, _*_, _/_, _%_, _≤_, _<_}
+use mathlib.Core.Path.{_≡_, refl, ap}
+use mathlib.Core.Logic.{_≢_, inl, inr}
+use mathlib.Core.Bool.{true, _||_}
+use Prim.Native.Nat.{ℕ, zero, suc, _≤_}
 use native.Mathlib.Omega.{arith}
-use lib.Dec.{eqb}
 use Rattle.bounded.specs.Bounded.{one}
 use Rattle.bounded.proofs.Bools.{which}
 use Rattle.verdict.specs.Network.{inWay}
@@ -14,7 +13,6 @@ use Rattle.verdict.proofs.Facts.{Passes}
 use Rattle.run.specs.State.{code}
 use Rattle.run.specs.declared.Run.{Run}
 use Rattle.run.specs.declared.Ordered.{Ordered}
-use Rattle.run.specs.declared.Order.{Order}
 use Rattle.run.specs.declared.Order.the-variants.{Wait}
 use Rattle.run.proofs.Facts.{Sound}
 use Rattle.run.proofs.Cases.{Done, NextCase, blocked, gives, busy, asks, pends, over, flies, return-facts, request-facts}

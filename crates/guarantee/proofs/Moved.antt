@@ -1,9 +1,9 @@
 -- What one call does: the state stays sound, the counts follow the codes, and the potential pays for the event.
 -- Assumes nothing.
-use mathlib.Core.Path.{_≡_, refl, sym, ap, _∙_}
-use mathlib.Core.Logic.{_≢_, _⊎_, inl, inr}
-use mathlib.Core.Bool.{Bool, true, false, not, _&&_, _||_, cond}
-use Prim.Native.Nat.{ℕ, zero, suc, pred, _+_, _*_, _/_, _%_, _≤_, _<_}
+use mathlib.Core.Path.{_≡_, refl, _∙_}
+use mathlib.Core.Logic.{_≢_, inl, inr}
+use mathlib.Core.Bool.{true, false, not, _&&_, _||_}
+use Prim.Native.Nat.{ℕ, zero, suc, _+_, _*_, _≤_, _<_}
 use native.Mathlib.Nat.{le-refl}
 use native.Mathlib.Omega.{arith}
 use lib.Dec.{eqb, leb}
@@ -18,7 +18,7 @@ use Rattle.run.specs.Replies.{Y, N, G, K, toSwitch, settle}
 use Rattle.run.specs.declared.Run.{Run}
 use Rattle.run.specs.declared.Ordered.{Ordered}
 use Rattle.run.specs.declared.Replied.{Replied}
-use Rattle.run.proofs.Facts.{Core, Sound, soft}
+use Rattle.run.proofs.Facts.{Sound, soft}
 use Rattle.run.proofs.Cases.{NextCase, blocked, gives, busy, asks, pends, over, flies, next-case, return-facts, request-facts, ReplyCase, misfit, confirmed as yes′, refused, again as again′, returned as returned′, kept, reply-case}
 use Rattle.guarantee.specs.Answers.{pack, kindOf, placeOf, orderBits, place9, replyBits}
 use Rattle.guarantee.specs.Machine.{Asked, nextOrder, replied, replyTo, answer, after}

@@ -1,14 +1,14 @@
 -- Next order keeps a state sound, waits only for a reply, and what holds at its ends.
 -- Assumes nothing.
-use mathlib.Core.Path.{_≡_, refl, sym, ap, _∙_}
+use mathlib.Core.Path.{_≡_}
 use mathlib.Core.Logic.{_≢_, _⊎_, inl, inr}
 use mathlib.Core.Bool.{Bool, true, false, not, _&&_, _||_}
-use Prim.Native.Nat.{ℕ, _≤_, _<_}
+use Prim.Native.Nat.{ℕ, _<_}
 use native.Mathlib.Omega.{arith}
 use Rattle.bounded.proofs.Bools.{clash, which, same?, off, and-l, and-r, _&_, not-t, not-i, or-cases, or-l, or-r}
 use Rattle.bounded.proofs.Tests.{any-i, any-n, any-o}
-use Rattle.bounded.proofs.Extreme.{Extreme, extreme}
-use Rattle.verdict.specs.Network.{inWay, before, pre, firm, exposed, returnable, some}
+use Rattle.bounded.proofs.Extreme.{extreme}
+use Rattle.verdict.specs.Network.{inWay, before, pre, firm, returnable, some}
 use Rattle.verdict.specs.declared.Network.{Network}
 use Rattle.verdict.proofs.Members.{subset-i, subset-e}
 use Rattle.verdict.proofs.Facts.{Passes}
@@ -16,10 +16,9 @@ use Rattle.run.specs.State.{code, is, coded, held, put, lostIn}
 use Rattle.run.specs.Orders.{standsOn, needed, toReturn, ready, toRequest}
 use Rattle.run.specs.declared.Run.{Run}
 use Rattle.run.specs.declared.Ordered.{Ordered}
-use Rattle.run.specs.declared.Order.{Order}
 use Rattle.run.specs.declared.Order.the-variants.{Wait}
 use Rattle.run.proofs.Facts.{Core, Sound, is-i, is-e, coded-i, coded-e, some-coded, none-coded, inside, lost-i, lost-e}
-use Rattle.run.proofs.Cases.{Idle, Done, NextCase, blocked, gives, busy, asks, pends, over, flies, Returns, return-facts, Requests, request-facts}
+use Rattle.run.proofs.Cases.{Idle, Done, NextCase, blocked, gives, busy, asks, pends, over, flies, return-facts, request-facts}
 use Rattle.guarantee.proofs.Change.{Fits, hit, miss, change}
 
 module _ (g : Network) (ok : Passes g) (r : Run) (c : Core g r) where

@@ -1,17 +1,16 @@
 -- The start is sound.
 -- Assumes nothing.
-use mathlib.Core.Path.{_≡_, refl, sym, ap, _∙_}
-use mathlib.Core.Logic.{_≢_, _⊎_, inl, inr}
-use mathlib.Core.Bool.{Bool, true, false}
-use Prim.Native.Nat.{ℕ, zero, suc, _≤_, _<_}
+use mathlib.Core.Path.{_≡_, refl}
+use mathlib.Core.Logic.{inl, inr}
+use Prim.Native.Nat.{ℕ}
 use native.Mathlib.Omega.{arith}
-use lib.ListN.{length, length-replicate, getD-replicate, replicate, List·getD-eq-default}
+use lib.ListN.{getD-replicate, replicate, List·getD-eq-default}
 use Rattle.bounded.proofs.Bools.{split?}
 use Rattle.verdict.specs.declared.Network.{Network}
 use Rattle.verdict.proofs.Facts.{Passes}
 use Rattle.run.specs.State.{code, start}
 use Rattle.run.specs.Sound.{waysBefore}
-use Rattle.run.proofs.Facts.{Core, Sound}
+use Rattle.run.proofs.Facts.{Sound}
 
 pub all-free : (b : ℕ) → code start b ≡ 0
 unfolding code start

@@ -1,17 +1,14 @@
 -- The switch: where the current way has a lost booking and nothing is requested. A network that passes is never stranded.
 -- Assumes nothing.
-use mathlib.Core.Path.{_≡_, refl, sym, ap, _∙_}
-use mathlib.Core.Logic.{_≢_, _⊎_, inl, inr}
-use mathlib.Core.Bool.{Bool, true, false, not, _&&_, cond}
-use Prim.Native.Nat.{ℕ, zero, suc, _+_, _≤_, _<_, _/_, _%_, _^_}
-use native.Mathlib.Nat.{zero-div}
+use mathlib.Core.Path.{_≡_, refl, ap}
+use mathlib.Core.Logic.{_≢_, inl, inr}
+use mathlib.Core.Bool.{true, false, not, _&&_}
+use Prim.Native.Nat.{ℕ, zero, suc, _≤_, _<_}
 use native.Mathlib.Omega.{arith}
-use lib.Dec.{ltb, eqb}
-use borrow.Author.Tests.{ltb-true, ltb-false, eq-eqb, eqb-true, lt-ltb}
 use Rattle.bounded.proofs.Bools.{clash, same?, split?, off, which, and-l, and-r, _&_, not-t, not-i, by-cond}
-use Rattle.verdict.specs.Network.{inWay, pre, firm, exposed, some}
+use Rattle.verdict.specs.Network.{inWay, pre, firm, some}
 use Rattle.verdict.specs.declared.Network.{Network}
-use Rattle.verdict.proofs.Facts.{Passes, Stays, Refuge, no-way}
+use Rattle.verdict.proofs.Facts.{Passes, Stays, no-way}
 use Rattle.run.specs.State.{code, is, coded, requested, turn, lostIn, heldFirmAt, heldFirm, live, firstLive}
 use Rattle.run.specs.Replies.{toSwitch, settle}
 use Rattle.run.specs.Sound.{waysBefore}

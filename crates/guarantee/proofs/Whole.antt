@@ -1,10 +1,10 @@
 -- The whole campaign: for every network that passes and every list of calls from the start.
 -- Assumes nothing.
 use mathlib.Core.Path.{_≡_, refl, sym, ap, _∙_}
-use mathlib.Core.Logic.{_≢_, _⊎_, inl, inr}
-use mathlib.Core.Bool.{Bool, true, false, _||_}
-use mathlib.Core.List.{List, [], _∷_, map}
-use Prim.Native.Nat.{ℕ, zero, suc, _+_, _*_, _≤_, _<_}
+use mathlib.Core.Logic.{inl, inr}
+use mathlib.Core.Bool.{true, false}
+use mathlib.Core.List.{List, [], _∷_}
+use Prim.Native.Nat.{ℕ, suc, _+_, _*_, _≤_}
 use native.Mathlib.Omega.{arith}
 use lib.Dec.{eqb}
 use borrow.Author.Tests.{eqb-true}
@@ -15,14 +15,13 @@ use Rattle.verdict.specs.declared.Network.{Network}
 use Rattle.verdict.proofs.Facts.{Passes, no-way}
 use Rattle.run.specs.State.{code, start}
 use Rattle.run.specs.Orders.{next}
-use Rattle.run.specs.Bytes.{bytesOf}
 use Rattle.run.specs.declared.Run.{Run}
 use Rattle.run.proofs.Facts.{Sound}
 use Rattle.run.proofs.Cases.{Done, next-case}
 use Rattle.guarantee.specs.Answers.{kindOf, placeOf, orderBits}
-use Rattle.guarantee.specs.Machine.{Asked, nextOrder, answer, after, machineAnswers, machineStates, final}
-use Rattle.guarantee.specs.Calls.{callBits, states, answersTo, orderAfter}
-use Rattle.guarantee.specs.Counted.{sends, ends, confirmed, returned, ordered, answered, event, again, tally, waySizes}
+use Rattle.guarantee.specs.Machine.{Asked, nextOrder, answer, after, machineAnswers, final}
+use Rattle.guarantee.specs.Calls.{callBits, answersTo, orderAfter}
+use Rattle.guarantee.specs.Counted.{ends, confirmed, returned, ordered, answered, event, again, tally}
 use Rattle.guarantee.specs.Demand.{Settled, Kept, Undone, Demand3, SemiAtomic, one-way, no-effect}
 use Rattle.guarantee.specs.Guarantee.{Guarantee}
 use Rattle.guarantee.proofs.Start.{all-free, start-sound}
@@ -82,10 +81,12 @@ module _ (g : Network) (ok : Passes g) (qs : List Asked) (xs : List ℕ) (t : Ru
         goes-on = λ d. goes g ok t (k .sound) (λ b. omega (arith, unanswered b, d b)) n;
         flown = λ e.
             let f = flown-e g ok t (k .sound) n e in
-            let w : placeOf (orderBits (next g t .order)) ≡ t .way = f .2 in
-            (omega (arith, f .1), omega (arith, k .sound .core .way),
-            (λ b i. kept (f .0) b (ap (λ (w : ℕ). inWay g w b) (sym w) ∙ i)),
-            (λ b o. undone (f .0) b (ap (λ (w : ℕ). inWay g w b) (sym w) ∙ o)));
+            let w : placeOf (orderBits (next g t .order)) ≡ t .way = f .2 in (
+              omega (arith, f .1),
+              omega (arith, k .sound .core .way),
+              (λ b i. kept (f .0) b (ap (λ (w : ℕ). inWay g w b) (sym w) ∙ i)),
+              (λ b o. undone (f .0) b (ap (λ (w : ℕ). inWay g w b) (sym w) ∙ o)),
+            );
         called-off = λ e b.
             let f = off-e g ok t (k .sound) n e in
             let u = undone (f .0) b (nowhere (f .1) b) in

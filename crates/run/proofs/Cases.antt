@@ -1,22 +1,20 @@
 -- The cases of the first live way, of next order and of a reply, each with what is known in it. Theorems go by these cases.
 -- Assumes nothing.
-use mathlib.Core.Path.{_≡_, refl}
-use mathlib.Core.Logic.{_≢_, inl, inr}
-use mathlib.Core.Bool.{Bool, true, false, not, _&&_, cond}
-use Prim.Native.Nat.{ℕ, zero, suc, _<_}
-use native.Mathlib.Omega.{arith}
-use lib.Dec.{eqb, ltb}
-use borrow.Author.Tests.{ltb-true, ltb-false, eqb-true, eqb-false}
+use mathlib.Core.Path.{_≡_}
+use mathlib.Core.Logic.{_≢_}
+use mathlib.Core.Bool.{true, false, not, _&&_}
+use Prim.Native.Nat.{ℕ, suc, _<_}
+use lib.Dec.{eqb}
+use borrow.Author.Tests.{ltb-true, eqb-true, eqb-false}
 use Rattle.bounded.specs.Bounded.{first}
 use Rattle.bounded.proofs.Bools.{by-cond, and-l, and-r, not-t}
-use Rattle.bounded.proofs.Tests.{any-n}
 use Rattle.bounded.proofs.First.{Least, first-least, first-none}
 use Rattle.sets.specs.Sets.{member}
-use Rattle.verdict.specs.Network.{inWay, pre, exposed, some}
+use Rattle.verdict.specs.Network.{inWay, exposed, some}
 use Rattle.verdict.specs.declared.Network.{Network}
-use Rattle.run.specs.State.{code, is, held, free, requested, returning, put, turn, lostIn, live, liveAt, firstLive}
-use Rattle.run.specs.Orders.{standsOn, needed, toReturn, ready, toRequest, still, ending, next}
-use Rattle.run.specs.Replies.{Y, N, G, K, toSwitch, settle, afterNo, fits, misfits, reply}
+use Rattle.run.specs.State.{code, is, held, free, requested, returning, put, lostIn, live, liveAt, firstLive}
+use Rattle.run.specs.Orders.{needed, toReturn, ready, toRequest, still, ending, next}
+use Rattle.run.specs.Replies.{Y, N, G, K, settle, afterNo, fits, misfits, reply}
 use Rattle.run.specs.declared.Run.{Run}
 use Rattle.run.specs.declared.Ordered.{Ordered}
 use Rattle.run.specs.declared.Replied.{Replied}

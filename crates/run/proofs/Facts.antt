@@ -1,15 +1,14 @@
 -- What codes, a live way and a sound state are, as facts without bounds; the tests of codes and live ways cross over here.
 -- Assumes nothing.
-use mathlib.Core.Path.{_≡_, refl, sym, ap, _∙_}
-use mathlib.Core.Logic.{_≢_, _⊎_, inl, inr}
-use mathlib.Core.Bool.{Bool, true, false, not, _&&_}
+use mathlib.Core.Path.{_≡_}
+use mathlib.Core.Logic.{_≢_, inl, inr}
+use mathlib.Core.Bool.{true, false, not}
 use Prim.Native.Nat.{ℕ, suc, _≤_, _<_}
 use native.Mathlib.Omega.{arith}
-use lib.Dec.{eqb}
 use lib.ListN.{length}
 use borrow.Author.Tests.{eqb-true, eq-eqb}
 use Rattle.bounded.proofs.Bools.{clash, off, split?, and-l, and-r, _&_, not-t, not-i}
-use Rattle.sets.specs.Sets.{member, subsetOf}
+use Rattle.sets.specs.Sets.{member}
 use Rattle.verdict.specs.Network.{wayOf, inWay, pre, firm, exposed, returnable, some}
 use Rattle.verdict.specs.declared.Network.{Network}
 use Rattle.verdict.proofs.Members.{gather-i, gather-e, subset-i, subset-e, meet-i, meet-e, some-e, some-n}

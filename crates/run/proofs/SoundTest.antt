@@ -1,22 +1,21 @@
 -- A state passes the test exactly where it is sound.
 -- Assumes nothing.
-use mathlib.Core.Path.{_≡_, refl}
-use mathlib.Core.Logic.{_≢_, _⊎_, inl, inr}
-use mathlib.Core.Bool.{Bool, true, false, not, _&&_, _||_}
-use Prim.Native.Nat.{ℕ, zero, suc, _≤_, _<_}
+use mathlib.Core.Path.{_≡_}
+use mathlib.Core.Logic.{_≢_, inl, inr}
+use mathlib.Core.Bool.{true, not, _&&_, _||_}
+use Prim.Native.Nat.{ℕ, _≤_, _<_}
 use native.Mathlib.Omega.{arith}
 use lib.Dec.{leb}
 use lib.ListN.{length, List·getD-eq-default}
 use borrow.Author.Tests.{leb-true, le-leb}
-use Rattle.bounded.specs.Bounded.{imp, any, all}
-use Rattle.bounded.proofs.Bools.{clash, same?, split?, and-l, and-r, _&_, or-cases, or-l, or-r, not-t, not-i, off, imp-e, imp-i}
+use Rattle.bounded.specs.Bounded.{any}
+use Rattle.bounded.proofs.Bools.{same?, split?, and-l, and-r, _&_, or-cases, or-l, or-r, not-t, not-i, off, imp-e, imp-i}
 use Rattle.bounded.proofs.Tests.{any-i, any-e, all-i, all-e}
-use Rattle.sets.specs.Sets.{member}
-use Rattle.verdict.specs.Network.{wayOf, inWay, before, pre, firm, exposed, returnable, some}
+use Rattle.verdict.specs.Network.{wayOf, inWay, before, pre, exposed, returnable, some}
 use Rattle.verdict.specs.declared.Network.{Network}
 use Rattle.verdict.proofs.Members.{gather-i, gather-e, subset-i, subset-e, some-i}
 use Rattle.verdict.proofs.Facts.{Shape}
-use Rattle.run.specs.State.{code, is, coded, held, lost, requested, heldFirmAt, heldFirm, live, liveAt}
+use Rattle.run.specs.State.{code, is, held, lost, requested, heldFirmAt, heldFirm, liveAt}
 use Rattle.run.specs.Orders.{ready}
 use Rattle.run.specs.Sound.{codeKnown, codesKnown, wayKnown, zeroPast, restZero, founded, allFounded, lostExposed, requestedInside, mayReturn, returningOutside, leaving, quiet, waysBefore, passedOver, earlierDead, firmInside, pending, lostPending, sound}
 use Rattle.run.specs.declared.Run.{Run}
