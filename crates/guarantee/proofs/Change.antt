@@ -1,4 +1,4 @@
--- One booking's code changes and the way stays: what keeps a state sound.
+-- One booking's code changes and the way stays: what keeps a state sound. Every order and every reply is such a change.
 -- Assumes nothing.
 use mathlib.Core.Path.{_≡_, _∙_}
 use mathlib.Core.Logic.{_≢_, inl, inr}
@@ -15,22 +15,26 @@ use Rattle.run.specs.State.{code, put}
 use Rattle.run.specs.declared.Run.{Run}
 use Rattle.run.proofs.Facts.{Core, live-later}
 
--- what booking x may become v in a sound state asks
+-- what lets booking x get code v in a sound state
 pub record Fits (g : Network) (r : Run) (x v : ℕ) : Type 0 where
   pub booking : x < g .n
   pub small : v ≤ 4
+  -- a lost booking stays lost, and a held firm one stays held
   pub unlost : code r x ≢ 3
+  pub keeps : code r x ≡ 2 → firm g x ≡ true → ⊥
+  -- what precedes x is held unless x becomes free, and x is held if a booking in use stands on it
   pub ready : v ≢ 0 → (u : ℕ) → pre g u x ≡ true → code r u ≡ 2
   pub lets : (w : ℕ) → code r w ≢ 0 → (code r w ≡ 3 → inWay g (r .way) w ≡ true) → pre g x w ≡ true → v ≡ 2
+  -- what its kind and the current way allow
   pub shown : v ≡ 3 → exposed g x ≡ true
   pub asked : v ≡ 1 → inWay g (r .way) x ≡ true
   pub going : v ≡ 4 → (returnable g x ≡ true) × (inWay g (r .way) x ≡ false)
-  pub quiet : v ≡ 1 → (b : ℕ) → code r b ≡ 2 → inWay g (r .way) b ≡ false → ⊥
-  pub still : v ≡ 1 → (b : ℕ) → code r b ≡ 4 → ⊥
-  pub loose : v ≡ 2 → inWay g (r .way) x ≡ false → (q : ℕ) → code r q ≡ 1 → ⊥
-  pub alone : v ≡ 4 → (q : ℕ) → code r q ≡ 1 → ⊥
-  pub keeps : code r x ≡ 2 → firm g x ≡ true → ⊥
   pub firm-in : v ≡ 2 → firm g x ≡ true → inWay g (r .way) x ≡ true
+  -- nothing is requested while something is held outside the current way or returning
+  pub quiet : v ≡ 1 → (b : ℕ) → code r b ≡ 2 → inWay g (r .way) b ≡ false → ⊥
+  pub still : v ≡ 1 → (b : ℕ) → code r b ≢ 4
+  pub loose : v ≡ 2 → inWay g (r .way) x ≡ false → (q : ℕ) → code r q ≢ 1
+  pub alone : v ≡ 4 → (q : ℕ) → code r q ≢ 1
 
 module _ (g : Network) (ok : Passes g) (r : Run) (c : Core g r) (x v : ℕ) (f : Fits g r x v) where
   pub hit : (b : ℕ) → b ≡ x → code (put r x v) b ≡ v

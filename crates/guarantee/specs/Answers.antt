@@ -3,7 +3,9 @@
 -- Assumes nothing.
 use mathlib.Core.Bool.{Bool, cond}
 use Prim.Native.Nat.{ℕ, suc, _+_, _*_, _/_, _%_}
-use lib.Dec.{leb}
+use lib.Dec.{eqb, leb}
+use Rattle.verdict.specs.Check.{verdictNumber, verdictPlace}
+use Rattle.verdict.specs.declared.Verdict.{Verdict}
 use Rattle.run.specs.declared.Order.{Order}
 use Rattle.run.specs.declared.Order.the-variants.{Request, Return, Wait, Flown, Off}
 
@@ -31,6 +33,10 @@ place9 b = cond (leb b 64) b 0
 -- the answer to a reply that names booking b: accepted, or refusal 9
 unfoldable pub replyBits : ℕ → Bool → ℕ
 replyBits b taken = cond taken (pack 6 0 b) (pack 0 9 (place9 b))
+
+-- the answer of check: accepted, with place 0, or its refusal and place
+unfoldable pub checkBits : Verdict → ℕ
+checkBits v = cond (eqb (verdictNumber v) 0) (pack 6 0 0) (pack 0 (verdictNumber v) (verdictPlace v))
 
 -- refusal 11: the state is not sound
 unfoldable pub unsound : ℕ

@@ -52,18 +52,23 @@ Past g r = (b : ℕ) → g .n ≤ b → code r b ≡ 0
 
 -- all of soundness but that something is requested where the current way has a lost booking
 pub record Core (g : Network) (r : Run) : Type 0 where
+  -- 64 codes of at most 4, a way of at most a, zero past n
   pub size : length (r .code) ≡ 64
   pub codes : (b : ℕ) → code r b ≤ 4
   pub way : r .way ≤ g .a
   pub past : Past g r
+  -- a requested, held or returning booking, and a lost one in the current way, has all predecessors held
   pub preds : (u v : ℕ) → code r v ≢ 0 → (code r v ≡ 3 → inWay g (r .way) v ≡ true) → pre g u v ≡ true → code r u ≡ 2
+  -- lost ones are exposed, requested ones in the current way, returning ones C and outside it, held firm ones in it
   pub shown : (b : ℕ) → code r b ≡ 3 → exposed g b ≡ true
   pub asked : (b : ℕ) → code r b ≡ 1 → inWay g (r .way) b ≡ true
   pub going : (b : ℕ) → code r b ≡ 4 → (returnable g b ≡ true) × (inWay g (r .way) b ≡ false)
+  pub firm-in : (b : ℕ) → code r b ≡ 2 → firm g b ≡ true → inWay g (r .way) b ≡ true
+  -- nothing is requested while something is held outside the current way or returning
   pub quiet : (b q : ℕ) → code r b ≡ 2 → inWay g (r .way) b ≡ false → code r q ≢ 1
   pub still : (b q : ℕ) → code r b ≡ 4 → code r q ≢ 1
+  -- the ways before the current one are not live
   pub earlier : (k : ℕ) → k < waysBefore g (r .way) → live g r (suc k) ≡ false
-  pub firm-in : (b : ℕ) → code r b ≡ 2 → firm g b ≡ true → inWay g (r .way) b ≡ true
 
 pub record Sound (g : Network) (r : Run) : Type 0 where
   pub core : Core g r
