@@ -1,2 +1,4 @@
 pub mod Rows
 pub mod LimitLaws
+pub mod RecordLaws
+pub mod Valid

@@ -1,6 +1,11 @@
 // The plan record: bookings with their kinds, links, ways; its limits; and which counts and entries of a record are refused.
 ghost use mathlib.Core.Path.{_≡_};
+ghost use Prim.Native.Nat.{_^_, _≤_};
+ghost use lib.Dec.{ltb};
+ghost use Rattle.bounded.specs.Bounded.{all};
+ghost use Rattle.sets.specs.Sets.{sizeOf};
 ghost use Rattle.plan.specs.Limits.{isKind, within, counted, limits, rises, inSequence};
+ghost use Rattle.plan.specs.Record.{kindAt, linkAt, countAt, withinAt, countsFit, entriesFit, recordOf};
 
 // A plan: n bookings, m links, a ways. Entries past these counts have no meaning.
 // kind[b] is the letter of booking b + 1; link i joins booking from[i] to booking to[i]; bit b of way[k] says that booking b + 1 is in way k + 1.
@@ -12,6 +17,13 @@ pub struct Plan {
     pub from: [u8; 512],
     pub to: [u8; 512],
     pub way: [u64; 16],
+}
+
+// What a record is: fine, or refused for a count, or for an entry that is out of sequence, out of range or no kind.
+pub enum Judgement {
+    Fine,
+    Count,
+    Sequence,
 }
 
 // Whether k is the letter of a kind.
@@ -81,4 +93,130 @@ pub fn in_sequence(n: usize, pu: usize, pv: usize, u: usize, v: usize) -> bool
         return false;
     }
     rises(pu, pv, u, v)
+}
+
+// Whether each of the first n kinds is one.
+pub fn kinds_known(n: usize, kind: [u8; 64]) -> bool
+    requires { ⌜ n ≤ 64 ⌝ }
+    ensures { λ r. ⌜ r ≡ all (kindAt kind) n ⌝ }
+{
+    let mut b = 0;
+    while b < n {
+        if !known_kind(kind[b]) {
+            return false;
+        }
+        b += 1;
+    }
+    true
+}
+
+// Whether the first m links join bookings of n and rise strictly.
+pub fn links_rise(n: usize, m: usize, from: [u8; 512], to: [u8; 512]) -> bool
+    requires { ⌜ m ≤ 512 ⌝ }
+    ensures { λ r. ⌜ r ≡ all (linkAt n from to) m ⌝ }
+{
+    let mut pu = 0;
+    let mut pv = 0;
+    let mut i = 0;
+    while i < m {
+        let u = from[i] as usize;
+        let v = to[i] as usize;
+        if !in_sequence(n, pu, pv, u, v) {
+            return false;
+        }
+        pu = u;
+        pv = v;
+        i += 1;
+    }
+    true
+}
+
+// Whether x has 1 to n members.
+pub fn has_count(x: u64, n: usize) -> bool
+    ensures { λ r. ⌜ r ≡ within 1 (sizeOf x) n ⌝ }
+{
+    is_within(1, sets::size(x), n)
+}
+
+// Whether each of the first a ways has 1 to n bookings.
+pub fn counts_fit(n: usize, a: usize, way: [u64; 16]) -> bool
+    requires { ⌜ a ≤ 16 ⌝ }
+    ensures { λ r. ⌜ r ≡ all (countAt n way) a ⌝ }
+{
+    let mut k = 0;
+    while k < a {
+        if !has_count(way[k], n) {
+            return false;
+        }
+        k += 1;
+    }
+    true
+}
+
+// Whether x has no member from n on.
+pub fn is_below(x: u64, n: usize) -> bool
+    requires { ⌜ n ≤ 64 ⌝ }
+    ensures { λ r. ⌜ r ≡ ltb x (2 ^ n) ⌝ }
+{
+    if n == 64 {
+        return true;
+    }
+    x < sets::bit(n)
+}
+
+// Whether each of the first a ways has bookings of n alone.
+pub fn ways_fit(n: usize, a: usize, way: [u64; 16]) -> bool
+    requires { ⌜ (n ≤ 64) × (a ≤ 16) ⌝ }
+    ensures { λ r. ⌜ r ≡ all (withinAt n way) a ⌝ }
+{
+    let mut k = 0;
+    while k < a {
+        if !is_below(way[k], n) {
+            return false;
+        }
+        k += 1;
+    }
+    true
+}
+
+// Whether every count of p is within its limits.
+pub fn record_counts(p: Plan) -> bool
+    ensures { λ r. ⌜ r ≡ countsFit p ⌝ }
+{
+    if !in_limits(p.n, p.m, p.a) {
+        return false;
+    }
+    let way = p.way;
+    counts_fit(p.n, p.a, way)
+}
+
+// Whether every entry of p is fine.
+pub fn record_entries(p: Plan) -> bool
+    requires { ⌜ (p .n ≤ 64) × (p .m ≤ 512) × (p .a ≤ 16) ⌝ }
+    ensures { λ r. ⌜ r ≡ entriesFit p ⌝ }
+{
+    let kind = p.kind;
+    if !kinds_known(p.n, kind) {
+        return false;
+    }
+    let from = p.from;
+    let to = p.to;
+    if !links_rise(p.n, p.m, from, to) {
+        return false;
+    }
+    let way = p.way;
+    ways_fit(p.n, p.a, way)
+}
+
+// Judges a record: its counts, then its entries.
+pub fn judge(p: Plan) -> Judgement
+    ensures { λ r. ⌜ r ≡ recordOf p ⌝ }
+{
+    if !record_counts(p) {
+        return Judgement::Count;
+    }
+    if !record_entries(p) {
+        return Judgement::Sequence;
+    }
+    Judgement::Fine
 }
