@@ -1,0 +1,40 @@
+-- A field inside a line: what a reader that goes on from field to field has in hand.
+-- Assumes nothing.
+use Prim.Native.Nat.{ℕ, _+_, _^_, _<_}
+use mathlib.Core.Path.{_≡_, sym, ap, _∙_}
+use mathlib.Core.List.{List, _++_}
+use lib.ListN.{take, drop, take-append-drop}
+use lib.Seq.{drop-drop}
+use Rattle.decimal.specs.Decimal.{columns, valueOf, fieldOf, fieldAt, numberAt}
+use Rattle.decimal.specs.declared.Field.{Field}
+use Rattle.decimal.specs.declared.Field.the-variants.{Number, Fault}
+use Rattle.decimal.proofs.Laws.{Reads, read-written, value-written, columns-no-fault}
+
+module _ (w at : ℕ) (line : List ℕ) (f : Field) (e : f ≡ fieldAt w at line) where
+  -- a line with a fault is no text that has the number's columns there
+  pub fault-in : (text : List ℕ) → f ≡ Fault → take w (drop at text) ≡ columns w (numberAt w at line) → line ≡ text → ⊥
+  unfolding fieldAt numberAt
+  fault-in text g c t = columns-no-fault w (take w (drop at line)) (ap (λ (l : List ℕ). take w (drop at l)) t ∙ c) (sym e ∙ g)
+
+  module _ (y : ℕ) (g : f ≡ Number y) where
+    read : Reads w (take w (drop at line)) y
+    unfolding fieldAt
+    read = read-written w (take w (drop at line)) y (sym e ∙ g)
+
+    -- the number that was read is the line's
+    pub number-is : y ≡ numberAt w at line
+    unfolding numberAt
+    number-is = read .value
+
+    pub number-small : y < 10 ^ w
+    number-small = read .small
+
+    -- its columns, and then the rest of the line
+    pub field-then : drop at line ≡ columns w y ++ drop (at + w) line
+    field-then =
+        sym (take-append-drop w (drop at line)) ∙ rw (← read .text, drop-drop w at line)
+
+-- the number that is written at a place stands there
+pub number-in : (w at x : ℕ) (text : List ℕ) → x < 10 ^ w → take w (drop at text) ≡ columns w x → numberAt w at text ≡ x
+unfolding numberAt
+number-in w at x text h e = rw e (value-written w x h)

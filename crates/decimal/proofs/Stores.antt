@@ -1,0 +1,41 @@
+-- The laws of `sets`, bytes stored one after the other from a place on. None has a condition on lengths but the last: what lies
+-- past the end is not stored.
+-- Assumes nothing.
+use Prim.Native.Nat.{ℕ, suc, _+_, _≤_, _<_}
+use mathlib.Core.Path.{_≡_, refl, ap, _∙_}
+use mathlib.Core.List.{List, [], _∷_, _++_, append-nil}
+use native.Mathlib.Omega.{arith}
+use native.Mathlib.Nat.{add-zero}
+use native.Mathlib.Numerals.{add-one}
+use lib.ListN.{length, getD, take, drop, set, drop-of-length-le}
+use lib.Seq.{sets, sets-eq, set-comm, take-suc, length-take-le}
+
+-- one text after another
+pub sets-append : (d : List ℕ) (i : ℕ) (a b : List ℕ) → sets d i (a ++ b) ≡ sets (sets d i a) (i + length a) b
+sets-append d i [] b = rw add-zero
+sets-append d i (x ∷ a) b =
+    let e : suc i + length a ≡ i + suc (length a) = omega arith in
+    sets-append (set d i x) (suc i) a b ∙ ap (λ (k : ℕ). sets (sets (set d i x) (suc i) a) k b) e
+
+-- a turn of a loop that copies s
+pub sets-turn : (d : List ℕ) (at : ℕ) (s : List ℕ) (j : ℕ) → j < length s → set (sets d at (take j s)) (at + j) (getD s j 0) ≡ sets d at (take (j + 1) s)
+sets-turn d at s j h =
+    let n : length (take j s) ≡ j = length-take-le j s (omega arith) in
+    rw (add-one, take-suc s j 0 h, sets-append, n)
+
+-- a byte past the text may be stored before it
+sets-past : (d : List ℕ) (at : ℕ) (a : List ℕ) (j c : ℕ) → at + length a ≤ j → set (sets d at a) j c ≡ sets (set d j c) at a
+sets-past d at [] j c h = refl
+sets-past d at (x ∷ a) j c h =
+    sets-past (set d at x) (suc at) a j c (omega arith) ∙ ap (λ (l : List ℕ). sets l (suc at) a) (set-comm d at j x c (λ e. omega arith))
+
+-- the last byte first
+pub sets-last : (d : List ℕ) (at : ℕ) (a : List ℕ) (c : ℕ) → sets d at (a ++ (c ∷ [])) ≡ sets (set d (at + length a) c) at a
+sets-last d at a c = sets-append d at a (c ∷ []) ∙ sets-past d at a (at + length a) c (omega arith)
+
+-- a text as long as what it is stored in
+pub sets-whole : (d a : List ℕ) → length d ≡ length a → sets d 0 a ≡ a
+sets-whole d a e =
+    let z : 0 + length a ≡ length a = omega arith in
+    let n : drop (0 + length a) d ≡ [] = rw z (drop-of-length-le d {i = length a} (omega arith)) in
+    sets-eq a d 0 (omega arith) ∙ rw n (append-nil a)
