@@ -38,9 +38,3 @@ entriesFit p = all (kindAt (p .kind)) (p .n) && (all (linkAt (p .n) (p .from) (p
 
 unfoldable pub recordOf : Plan → Judgement
 recordOf p = cond (countsFit p) (cond (entriesFit p) Fine Sequence) Count
-
--- the refusal that each judgement is; 0 is none
-abbrev pub judgementRefusal : Judgement → ℕ
-judgementRefusal Fine = 0
-judgementRefusal Count = 2
-judgementRefusal Sequence = 3

@@ -5,6 +5,7 @@ ghost use lib.Dec.{ltb};
 ghost use Rattle.bounded.specs.Bounded.{all};
 ghost use Rattle.sets.specs.Sets.{sizeOf};
 ghost use Rattle.plan.specs.Limits.{isKind, within, counted, limits, rises, inSequence};
+ghost use Rattle.plan.specs.Judging.{isFine};
 ghost use Rattle.plan.specs.Record.{kindAt, linkAt, countAt, withinAt, countsFit, entriesFit, recordOf};
 
 // A plan: n bookings, m links, a ways. Entries past these counts have no meaning.
@@ -24,6 +25,26 @@ pub enum Judgement {
     Fine,
     Count,
     Sequence,
+}
+
+// What the lines of a sheet are, as far as they were read: fine, or refused at a line for its form, for a count, or for a number.
+pub enum Judged {
+    Fine,
+    Form(usize),
+    Count(usize),
+    Sequence(usize),
+}
+
+// Whether no line was refused.
+pub fn is_fine(j: Judged) -> bool
+    ensures { λ r. ⌜ r ≡ isFine j ⌝ }
+{
+    match j {
+        Judged::Fine => true,
+        Judged::Form(_) => false,
+        Judged::Count(_) => false,
+        Judged::Sequence(_) => false,
+    }
 }
 
 // Whether k is the letter of a kind.
