@@ -1,0 +1,5 @@
+pub mod Rows
+pub mod LimitLaws
+pub mod RecordLaws
+pub mod Valid
+pub mod Filled

@@ -1,0 +1,111 @@
+-- The tests of the limits as facts.
+-- Assumes nothing.
+use mathlib.Core.Path.{_≡_, sym, _∙_}
+use mathlib.Core.Logic.{_⊎_, inl, inr}
+use mathlib.Core.Bool.{Bool, true, false, not, _&&_}
+use Prim.Native.Nat.{ℕ, _≤_, _<_}
+use native.Mathlib.Omega.{arith}
+use lib.Dec.{eqb, leb, ltb}
+use borrow.Author.Tests.{leb-true, le-leb, eqb-true, eq-eqb, ltb-true, lt-ltb}
+use Rattle.bounded.proofs.Bools.{and-l, and-r, _&_, or-cases, or-l, or-r, not-f}
+use Rattle.plan.specs.Limits.{mostBookings, mostLinks, mostWays, isKind, within, counted, limits, rises, inSequence}
+
+-- ---- from lo to hi
+
+pub within-lo : (lo x hi : ℕ) → within lo x hi ≡ true → lo ≤ x
+unfolding within
+within-lo lo x hi e = leb-true lo x (and-l (leb lo x) (leb x hi) e)
+
+pub within-hi : (lo x hi : ℕ) → within lo x hi ≡ true → x ≤ hi
+unfolding within
+within-hi lo x hi e = leb-true x hi (and-r (leb lo x) (leb x hi) e)
+
+pub within-i : (lo x hi : ℕ) → lo ≤ x → x ≤ hi → within lo x hi ≡ true
+unfolding within
+within-i lo x hi p q = le-leb lo x p & le-leb x hi q
+
+-- ---- the counts
+
+pub record Limited (n m a : ℕ) : Type 0 where
+  pub some-booking : 1 ≤ n
+  pub bookings : n ≤ mostBookings
+  pub links : m ≤ mostLinks
+  pub some-way : 1 ≤ a
+  pub ways : a ≤ mostWays
+
+pub limited : (n m a : ℕ) → limits n m a ≡ true → Limited n m a
+unfolding limits counted
+limited n m a e =
+    let l : within 1 n mostBookings ≡ true = and-l (within 1 n mostBookings) _ e in
+    let r : within 0 m mostLinks && within 1 a mostWays ≡ true = and-r (within 1 n mostBookings) _ e in
+    let w : within 1 a mostWays ≡ true = and-r (within 0 m mostLinks) _ r in
+    record {
+      some-booking = within-lo 1 n mostBookings l;
+      bookings = within-hi 1 n mostBookings l;
+      links = within-hi 0 m mostLinks (and-l (within 0 m mostLinks) _ r);
+      some-way = within-lo 1 a mostWays w;
+      ways = within-hi 1 a mostWays w;
+    }
+
+-- past `if !in_limits(n, m, a) { return .. }`
+pub limited-by : (n m a : ℕ) (x : Bool) → x ≡ limits n m a → not x ≡ false → Limited n m a
+limited-by n m a x e q = limited n m a (sym e ∙ not-f x q)
+
+pub limited-i : (n m a : ℕ) → Limited n m a → limits n m a ≡ true
+unfolding limits counted
+limited-i n m a l =
+    within-i 1 n mostBookings (l .some-booking) (l .bookings)
+    & within-i 0 m mostLinks (omega arith) (l .links)
+    & within-i 1 a mostWays (l .some-way) (l .ways)
+
+-- ---- kinds
+
+pub kind-cases : (k : ℕ) → isKind k ≡ true → (k ≡ 67) ⊎ ((k ≡ 80) ⊎ (k ≡ 82))
+unfolding isKind
+kind-cases k e = elim (or-cases (eqb k 67) _ e) [
+  | inl c ↦ inl (eqb-true k 67 c)
+  | inr q ↦ elim (or-cases (eqb k 80) _ q) [ inl p ↦ inr (inl (eqb-true k 80 p)) | inr r ↦ inr (inr (eqb-true k 82 r)) ]
+]
+
+pub kind-i : (k : ℕ) → (k ≡ 67) ⊎ ((k ≡ 80) ⊎ (k ≡ 82)) → isKind k ≡ true
+unfolding isKind
+kind-i k (inl c) = or-l (eqb k 67) _ (eq-eqb k 67 c)
+kind-i k (inr (inl p)) = or-r (eqb k 67) _ (or-l (eqb k 80) _ (eq-eqb k 80 p))
+kind-i k (inr (inr r)) = or-r (eqb k 67) _ (or-r (eqb k 80) _ (eq-eqb k 82 r))
+
+-- ---- links
+
+pub rises-cases : (pu pv u v : ℕ) → rises pu pv u v ≡ true → (pu < u) ⊎ ((pu ≡ u) × (pv < v))
+unfolding rises
+rises-cases pu pv u v e = elim (or-cases (ltb pu u) _ e) [
+  | inl l ↦ inl (ltb-true pu u l)
+  | inr q ↦ inr (eqb-true pu u (and-l (eqb pu u) _ q), ltb-true pv v (and-r (eqb pu u) _ q))
+]
+
+pub rises-i : (pu pv u v : ℕ) → (pu < u) ⊎ ((pu ≡ u) × (pv < v)) → rises pu pv u v ≡ true
+unfolding rises
+rises-i pu pv u v (inl l) = or-l (ltb pu u) _ (lt-ltb pu u l)
+rises-i pu pv u v (inr q) = or-r (ltb pu u) _ (eq-eqb pu u (q .0) & lt-ltb pv v (q .1))
+
+-- a link between two of the bookings 1 to n, after the link from pu to pv
+pub record Sequenced (n pu pv u v : ℕ) : Type 0 where
+  pub start : (1 ≤ u) × (u ≤ n)
+  pub end : (1 ≤ v) × (v ≤ n)
+  pub rising : (pu < u) ⊎ ((pu ≡ u) × (pv < v))
+
+pub sequenced : (n pu pv u v : ℕ) → inSequence n pu pv u v ≡ true → Sequenced n pu pv u v
+unfolding inSequence
+sequenced n pu pv u v e =
+    let f : within 1 u n ≡ true = and-l (within 1 u n) _ e in
+    let r : within 1 v n && rises pu pv u v ≡ true = and-r (within 1 u n) _ e in
+    let t : within 1 v n ≡ true = and-l (within 1 v n) _ r in
+    record {
+      start = (within-lo 1 u n f, within-hi 1 u n f);
+      end = (within-lo 1 v n t, within-hi 1 v n t);
+      rising = rises-cases pu pv u v (and-r (within 1 v n) _ r);
+    }
+
+pub sequenced-i : (n pu pv u v : ℕ) → Sequenced n pu pv u v → inSequence n pu pv u v ≡ true
+unfolding inSequence
+sequenced-i n pu pv u v s =
+    within-i 1 u n (s .start .0) (s .start .1) & within-i 1 v n (s .end .0) (s .end .1) & rises-i pu pv u v (s .rising)

@@ -1,0 +1,42 @@
+use Rattle.plan.proofs.Rows.{all-out, all-on}
+use Rattle.bounded.proofs.Loops.{All-far, all-far-none, all-over}
+use borrow.Author.Needs.{needs}
+use Prim.Native.Nat.{_-_, _≤_}
+use Rattle.plan.specs.Record.{kindAt}
+use Rattle.plan.proofs.kinds_known.Statement.{statement}
+use Rattle.plan.proofs.kinds_known.Tie as tie
+
+abbrev Inv-loop : tie.InvT-loop
+Inv-loop n kind b₀ b = (b ≤ n) × All-far (kindAt kind) b
+
+abbrev μ-loop : tie.MeasureT-loop
+μ-loop n kind b₀ b = n - b
+
+loop-holds : tie.Need-loop-holds Inv-loop μ-loop
+loop-holds c = (search needs, all-far-none (kindAt _))
+
+returns : tie.Need-returns Inv-loop μ-loop
+unfolding kindAt
+returns c = search all-out
+
+loop-again : tie.Need-loop-again Inv-loop μ-loop
+unfolding kindAt
+loop-again c = (search needs, search all-on)
+
+returns-2 : tie.Need-returns-2 Inv-loop μ-loop
+returns-2 c = search all-over
+
+pub kinds-known-spec : {M : Type 1} → statement M
+kinds-known-spec =
+    tie.close
+    (tie.spec
+    Inv-loop
+    μ-loop
+    loop-holds
+    (search needs)
+    (search needs)
+    returns
+    (search needs)
+    (search needs)
+    loop-again
+    returns-2)

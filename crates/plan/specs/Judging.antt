@@ -1,0 +1,33 @@
+-- The refusals 1 to 3 as numbers: which one a judgement is, and its place, the line of a sheet or 0 for a record.
+-- Assumes nothing.
+use mathlib.Core.Bool.{Bool, true, false}
+use Prim.Native.Nat.{ℕ}
+use Rattle.plan.specs.declared.Judged.{Judged}
+use Rattle.plan.specs.declared.Judged.the-variants.{Fine, Form, Count, Sequence}
+use Rattle.plan.specs.declared.Judgement.{Judgement}
+use Rattle.plan.specs.declared.Judgement.the-variants as R
+
+abbrev pub isFine : Judged → Bool
+isFine Fine = true
+isFine (Form l) = false
+isFine (Count l) = false
+isFine (Sequence l) = false
+
+-- of a sheet: 1 a line is not of its form, 2 a count is outside its limits, 3 a number is out of sequence or range; 0 is no refusal
+abbrev pub judgedRefusal : Judged → ℕ
+judgedRefusal Fine = 0
+judgedRefusal (Form l) = 1
+judgedRefusal (Count l) = 2
+judgedRefusal (Sequence l) = 3
+
+abbrev pub judgedPlace : Judged → ℕ
+judgedPlace Fine = 0
+judgedPlace (Form l) = l
+judgedPlace (Count l) = l
+judgedPlace (Sequence l) = l
+
+-- of a record, whose place is always 0
+abbrev pub judgementRefusal : Judgement → ℕ
+judgementRefusal R.Fine = 0
+judgementRefusal R.Count = 2
+judgementRefusal R.Sequence = 3

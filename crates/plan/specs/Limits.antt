@@ -1,0 +1,39 @@
+-- The limits of a plan: how many bookings, links and ways it has, its letters of kinds, and the sequence of its links.
+-- Assumes nothing.
+use mathlib.Core.Bool.{Bool, _&&_, _||_}
+use Prim.Native.Nat.{ℕ}
+use lib.Dec.{eqb, leb, ltb}
+
+-- at most so many bookings, links and ways: the only place in the definitions that names them
+abbrev pub mostBookings : ℕ
+mostBookings = 64
+
+abbrev pub mostLinks : ℕ
+mostLinks = 512
+
+abbrev pub mostWays : ℕ
+mostWays = 16
+
+-- the letter of a kind: C is returnable, P is a pivot, R is repeatable
+unfoldable pub isKind : ℕ → Bool
+isKind k = eqb k 67 || (eqb k 80 || eqb k 82)
+
+-- x is one of lo, lo + 1, .. hi
+unfoldable pub within : ℕ → ℕ → ℕ → Bool
+within lo x hi = leb lo x && leb x hi
+
+-- 1 to bs bookings, 0 to ls links, 1 to ws ways
+unfoldable pub counted : ℕ → ℕ → ℕ → ℕ → ℕ → ℕ → Bool
+counted bs ls ws n m a = within 1 n bs && (within 0 m ls && within 1 a ws)
+
+-- the counts of a plan are within the limits
+unfoldable pub limits : ℕ → ℕ → ℕ → Bool
+limits n m a = counted mostBookings mostLinks mostWays n m a
+
+-- the link from u to v comes after the link from pu to pv: by its first booking, then by its second
+unfoldable pub rises : ℕ → ℕ → ℕ → ℕ → Bool
+rises pu pv u v = ltb pu u || (eqb pu u && ltb pv v)
+
+-- a link between two of the bookings 1 to n that comes after the link from pu to pv
+unfoldable pub inSequence : ℕ → ℕ → ℕ → ℕ → ℕ → Bool
+inSequence n pu pv u v = within 1 u n && (within 1 v n && rises pu pv u v)

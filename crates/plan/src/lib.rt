@@ -1,0 +1,243 @@
+// The plan record: bookings with their kinds, links, ways; its limits; and which counts and entries of a record are refused.
+ghost use mathlib.Core.Path.{_≡_};
+ghost use Prim.Native.Nat.{_^_, _≤_};
+ghost use lib.Dec.{ltb};
+ghost use Rattle.bounded.specs.Bounded.{all};
+ghost use Rattle.sets.specs.Sets.{sizeOf};
+ghost use Rattle.plan.specs.Limits.{isKind, within, counted, limits, rises, inSequence};
+ghost use Rattle.plan.specs.Judging.{isFine};
+ghost use Rattle.plan.specs.Record.{kindAt, linkAt, countAt, withinAt, countsFit, entriesFit, recordOf};
+
+// A plan: n bookings, m links, a ways. Entries past these counts have no meaning.
+// kind[b] is the letter of booking b + 1; link i joins booking from[i] to booking to[i]; bit b of way[k] says that booking b + 1 is in way k + 1.
+pub struct Plan {
+    pub n: usize,
+    pub m: usize,
+    pub a: usize,
+    pub kind: [u8; 64],
+    pub from: [u8; 512],
+    pub to: [u8; 512],
+    pub way: [u64; 16],
+}
+
+// What a record is: fine, or refused for a count, or for an entry that is out of sequence, out of range or no kind.
+pub enum Judgement {
+    Fine,
+    Count,
+    Sequence,
+}
+
+// What the lines of a sheet are, as far as they were read: fine, or refused at a line for its form, for a count, or for a number.
+pub enum Judged {
+    Fine,
+    Form(usize),
+    Count(usize),
+    Sequence(usize),
+}
+
+// Whether no line was refused.
+pub fn is_fine(j: Judged) -> bool
+    ensures { λ r. ⌜ r ≡ isFine j ⌝ }
+{
+    match j {
+        Judged::Fine => true,
+        Judged::Form(_) => false,
+        Judged::Count(_) => false,
+        Judged::Sequence(_) => false,
+    }
+}
+
+// Whether k is the letter of a kind.
+pub fn known_kind(k: u8) -> bool
+    ensures { λ r. ⌜ r ≡ isKind k ⌝ }
+{
+    if k == b'C' {
+        return true;
+    }
+    if k == b'P' {
+        return true;
+    }
+    k == b'R'
+}
+
+// Whether lo <= x <= hi.
+pub fn is_within(lo: usize, x: usize, hi: usize) -> bool
+    ensures { λ r. ⌜ r ≡ within lo x hi ⌝ }
+{
+    if x < lo {
+        return false;
+    }
+    x <= hi
+}
+
+// Whether the counts n, m and a are at most bs, ls and ws, with at least one booking and one way.
+pub fn are_counted(bs: usize, ls: usize, ws: usize, n: usize, m: usize, a: usize) -> bool
+    ensures { λ r. ⌜ r ≡ counted bs ls ws n m a ⌝ }
+{
+    if !is_within(1, n, bs) {
+        return false;
+    }
+    if !is_within(0, m, ls) {
+        return false;
+    }
+    is_within(1, a, ws)
+}
+
+// Whether the counts of bookings, links and ways are within the limits of a plan.
+pub fn in_limits(n: usize, m: usize, a: usize) -> bool
+    ensures { λ r. ⌜ r ≡ limits n m a ⌝ }
+{
+    are_counted(64, 512, 16, n, m, a)
+}
+
+// Whether the link from u to v comes after the link from pu to pv.
+pub fn rises(pu: usize, pv: usize, u: usize, v: usize) -> bool
+    ensures { λ r. ⌜ r ≡ rises pu pv u v ⌝ }
+{
+    if pu < u {
+        return true;
+    }
+    if pu != u {
+        return false;
+    }
+    pv < v
+}
+
+// Whether u and v are bookings of n, and the link between them comes after the link from pu to pv.
+pub fn in_sequence(n: usize, pu: usize, pv: usize, u: usize, v: usize) -> bool
+    ensures { λ r. ⌜ r ≡ inSequence n pu pv u v ⌝ }
+{
+    if !is_within(1, u, n) {
+        return false;
+    }
+    if !is_within(1, v, n) {
+        return false;
+    }
+    rises(pu, pv, u, v)
+}
+
+// Whether each of the first n kinds is one.
+pub fn kinds_known(n: usize, kind: [u8; 64]) -> bool
+    requires { ⌜ n ≤ 64 ⌝ }
+    ensures { λ r. ⌜ r ≡ all (kindAt kind) n ⌝ }
+{
+    let mut b = 0;
+    while b < n {
+        if !known_kind(kind[b]) {
+            return false;
+        }
+        b += 1;
+    }
+    true
+}
+
+// Whether the first m links join bookings of n and rise strictly.
+pub fn links_rise(n: usize, m: usize, from: [u8; 512], to: [u8; 512]) -> bool
+    requires { ⌜ m ≤ 512 ⌝ }
+    ensures { λ r. ⌜ r ≡ all (linkAt n from to) m ⌝ }
+{
+    let mut pu = 0;
+    let mut pv = 0;
+    let mut i = 0;
+    while i < m {
+        let u = from[i] as usize;
+        let v = to[i] as usize;
+        if !in_sequence(n, pu, pv, u, v) {
+            return false;
+        }
+        pu = u;
+        pv = v;
+        i += 1;
+    }
+    true
+}
+
+// Whether x has 1 to n members.
+pub fn has_count(x: u64, n: usize) -> bool
+    ensures { λ r. ⌜ r ≡ within 1 (sizeOf x) n ⌝ }
+{
+    is_within(1, sets::size(x), n)
+}
+
+// Whether each of the first a ways has 1 to n bookings.
+pub fn counts_fit(n: usize, a: usize, way: [u64; 16]) -> bool
+    requires { ⌜ a ≤ 16 ⌝ }
+    ensures { λ r. ⌜ r ≡ all (countAt n way) a ⌝ }
+{
+    let mut k = 0;
+    while k < a {
+        if !has_count(way[k], n) {
+            return false;
+        }
+        k += 1;
+    }
+    true
+}
+
+// Whether x has no member from n on.
+pub fn is_below(x: u64, n: usize) -> bool
+    requires { ⌜ n ≤ 64 ⌝ }
+    ensures { λ r. ⌜ r ≡ ltb x (2 ^ n) ⌝ }
+{
+    if n == 64 {
+        return true;
+    }
+    x < sets::bit(n)
+}
+
+// Whether each of the first a ways has bookings of n alone.
+pub fn ways_fit(n: usize, a: usize, way: [u64; 16]) -> bool
+    requires { ⌜ (n ≤ 64) × (a ≤ 16) ⌝ }
+    ensures { λ r. ⌜ r ≡ all (withinAt n way) a ⌝ }
+{
+    let mut k = 0;
+    while k < a {
+        if !is_below(way[k], n) {
+            return false;
+        }
+        k += 1;
+    }
+    true
+}
+
+// Whether every count of p is within its limits.
+pub fn record_counts(p: Plan) -> bool
+    ensures { λ r. ⌜ r ≡ countsFit p ⌝ }
+{
+    if !in_limits(p.n, p.m, p.a) {
+        return false;
+    }
+    let way = p.way;
+    counts_fit(p.n, p.a, way)
+}
+
+// Whether every entry of p is fine.
+pub fn record_entries(p: Plan) -> bool
+    requires { ⌜ (p .n ≤ 64) × (p .m ≤ 512) × (p .a ≤ 16) ⌝ }
+    ensures { λ r. ⌜ r ≡ entriesFit p ⌝ }
+{
+    let kind = p.kind;
+    if !kinds_known(p.n, kind) {
+        return false;
+    }
+    let from = p.from;
+    let to = p.to;
+    if !links_rise(p.n, p.m, from, to) {
+        return false;
+    }
+    let way = p.way;
+    ways_fit(p.n, p.a, way)
+}
+
+// Judges a record: its counts, then its entries.
+pub fn judge(p: Plan) -> Judgement
+    ensures { λ r. ⌜ r ≡ recordOf p ⌝ }
+{
+    if !record_counts(p) {
+        return Judgement::Count;
+    }
+    if !record_entries(p) {
+        return Judgement::Sequence;
+    }
+    Judgement::Fine
+}

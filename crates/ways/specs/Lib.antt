@@ -1,0 +1,3 @@
+pub mod WayText
+pub mod Way
+pub mod Ways

@@ -1,0 +1,35 @@
+-- Reading the way lines of a sheet.
+-- Assumes nothing.
+use mathlib.Core.List.{List}
+use Prim.Native.Nat.{ℕ, zero, suc, _+_, _*_}
+use lib.ListN.{drop, set, replicate}
+use Rattle.plan.specs.Limits.{mostWays}
+use Rattle.plan.specs.declared.Judged.{Judged}
+use Rattle.plan.specs.declared.Judged.the-variants.{Fine, Form, Count, Sequence}
+use Rattle.decimal.specs.Decimal.{numberAt}
+use Rattle.ways.specs.Way.{wayOf}
+use Rattle.ways.specs.declared.Way.{Way}
+use Rattle.ways.specs.declared.Way.the-variants.{Members, Malformed, OutOfLimits, OutOfSequence}
+use Rattle.ways.specs.declared.Ways.{Ways}
+
+-- on with the bookings that a line lists, or refused at line l with the ways so far
+abbrev pub afterWay : Way → ℕ → ℕ → List ℕ → (ℕ → ℕ → Ways) → Ways
+afterWay (Members k s) l at ws next = next k s
+afterWay Malformed l at ws next = record { judged = Form l; next = at; way = ws }
+afterWay OutOfLimits l at ws next = record { judged = Count l; next = at; way = ws }
+afterWay OutOfSequence l at ws next = record { judged = Sequence l; next = at; way = ws }
+
+-- the ways of the first lines of the rest of a sheet, from way i + 1 on, which stands on line first + i and at place at
+unfoldable pub waysOf : ℕ → ℕ → ℕ → ℕ → ℕ → List ℕ → List ℕ → Ways
+waysOf n first zero i at rest ws = record { judged = Fine; next = at; way = ws }
+waysOf n first (suc more) i at rest ws =
+    afterWay (wayOf n rest) (first + i) at ws (λ k s. waysOf n first more (i + 1) (at + 6 + 4 * k) (drop (6 + 4 * k) rest) (set ws i s))
+
+-- no way yet
+unfoldable pub noWays : List ℕ
+noWays = replicate mostWays 0
+
+-- the sum of the counts that so many way lines list
+unfoldable pub countsListed : ℕ → List ℕ → ℕ
+countsListed zero rest = 0
+countsListed (suc more) rest = numberAt 4 1 rest + countsListed more (drop (6 + 4 * numberAt 4 1 rest) rest)
