@@ -4,12 +4,14 @@ use verdict::Network;
 ghost use mathlib.Core.Path.{_≡_};
 ghost use mathlib.Core.Bool.{not, _&&_, cond};
 ghost use Prim.Native.Nat.{_≤_, _<_};
+ghost use lib.ListN.{length};
 ghost use Rattle.bounded.specs.Bounded.{first};
 ghost use Rattle.sets.specs.Sets.{member, gather, subsetOf, disjointFrom};
 ghost use Rattle.verdict.specs.Network.{wayOf};
 ghost use Rattle.run.specs.State.{is, put, start, lostIn, heldFirm, live, firstLive};
-ghost use Rattle.run.specs.Orders.{needed, toReturn, ready, toRequest, next};
-ghost use Rattle.run.specs.Replies.{settle, afterNo, reply};
+ghost use Rattle.run.specs.Orders.{needed, toReturn, ready, toRequest, still, next};
+ghost use Rattle.run.specs.Replies.{settle, afterNo, fits, misfits, reply};
+ghost use Rattle.run.specs.Bytes.{bytesOf, runOf};
 
 // The current way, 0 while calling off, and for each of 64 bookings its code:
 // 0 free, 1 requested, 2 held, 3 lost, 4 returning.
@@ -108,7 +110,7 @@ impl Run {
 }
 
 // Whether a way is live, from its bookings, the lost ones and the held firm ones.
-fn is_live(way: u64, lost: u64, firm: u64) -> bool
+pub fn is_live(way: u64, lost: u64, firm: u64) -> bool
     ensures { λ t. ⌜ t ≡ (not (not (disjointFrom way lost)) && subsetOf firm way) ⌝ }
 {
     if !sets::disjoint(way, lost) {
@@ -159,7 +161,7 @@ impl Run {
     }
 
     // The bookings whose predecessors are all held.
-    fn ready(self, g: Network) -> u64
+    pub fn ready(self, g: Network) -> u64
         requires { ⌜ g .n ≤ 64 ⌝ }
         ensures { λ s. ⌜ s ≡ gather (ready g self) (g .n) ⌝ }
     {
@@ -192,16 +194,20 @@ impl Run {
         sets::lowest(open & self.ready(g))
     }
 
+    // An order that changes nothing.
+    fn still(self, order: Order) -> Ordered
+        ensures { λ t. ⌜ t ≡ still order self ⌝ }
+    {
+        Ordered { order, run: self }
+    }
+
     // The next order, and the state after it.
     pub fn next_order(self, g: Network) -> Ordered
         requires { ⌜ (g .n ≤ 64) × (self .way ≤ 16) ⌝ }
         ensures { λ t. ⌜ t ≡ next g self ⌝ }
     {
         if self.lost_in(g, self.way as usize) {
-            return Ordered {
-                order: Order::Wait,
-                run: self,
-            };
+            return self.still(Order::Wait);
         }
         let x = self.to_return(g);
         if x < 64 {
@@ -211,10 +217,7 @@ impl Run {
             };
         }
         if self.coded(g.n, 4) != 0 {
-            return Ordered {
-                order: Order::Wait,
-                run: self,
-            };
+            return self.still(Order::Wait);
         }
         let y = self.to_request(g);
         if y < 64 {
@@ -224,21 +227,12 @@ impl Run {
             };
         }
         if self.coded(g.n, 1) != 0 {
-            return Ordered {
-                order: Order::Wait,
-                run: self,
-            };
+            return self.still(Order::Wait);
         }
         if self.way == 0 {
-            return Ordered {
-                order: Order::Off,
-                run: self,
-            };
+            return self.still(Order::Off);
         }
-        Ordered {
-            order: Order::Flown(self.way),
-            run: self,
-        }
+        self.still(Order::Flown(self.way))
     }
 
     // What follows a Y or an N: where nothing is requested and the current way has a lost booking, the first live way becomes current.
@@ -259,53 +253,59 @@ impl Run {
         self
     }
 
+    // A reply that fits has led to this state.
+    fn fits(self) -> Replied
+        ensures { λ t. ⌜ t ≡ fits self ⌝ }
+    {
+        Replied {
+            taken: true,
+            run: self,
+        }
+    }
+
+    // A reply that does not fit leaves this state.
+    fn misfits(self) -> Replied
+        ensures { λ t. ⌜ t ≡ misfits self ⌝ }
+    {
+        Replied {
+            taken: false,
+            run: self,
+        }
+    }
+
     // A desk's reply about booking b: whether it fits, and the state after it.
     pub fn reply(self, g: Network, letter: u8, b: usize) -> Replied
         requires { ⌜ (g .n ≤ 64) × (g .a ≤ 16) × (self .way ≤ 16) ⌝ }
         ensures { λ t. ⌜ t ≡ reply g self letter b ⌝ }
     {
         if b >= g.n {
-            return Replied {
-                taken: false,
-                run: self,
-            };
+            return self.misfits();
         }
         let code = self.code;
         let c = code[b];
         if c == 1 {
             if letter == 89 {
                 let held = self.put(b, 2);
-                return Replied {
-                    taken: true,
-                    run: held.settle(g),
-                };
+                let after = held.settle(g);
+                return after.fits();
             }
             if letter == 78 {
                 let refused = self.put(b, after_no(g, b));
-                return Replied {
-                    taken: true,
-                    run: refused.settle(g),
-                };
+                let after = refused.settle(g);
+                return after.fits();
             }
         }
         if c == 4 {
             if letter == 71 {
-                return Replied {
-                    taken: true,
-                    run: self.put(b, 0),
-                };
+                let after = self.put(b, 0);
+                return after.fits();
             }
             if letter == 75 {
-                return Replied {
-                    taken: true,
-                    run: self.put(b, 2),
-                };
+                let after = self.put(b, 2);
+                return after.fits();
             }
         }
-        Replied {
-            taken: false,
-            run: self,
-        }
+        self.misfits()
     }
 }
 
@@ -315,4 +315,29 @@ fn after_no(g: Network, b: usize) -> u8
     ensures { λ c. ⌜ c ≡ afterNo g b ⌝ }
 {
     if sets::has(g.exposed, b) { 3 } else { 0 }
+}
+
+// The state that 65 bytes hold.
+pub fn load(s: &[u8]) -> Run
+    requires { ⌜ length (now s) ≡ 65 ⌝ }
+    ensures { λ r. ⌜ r ≡ runOf (now (s .entry)) ⌝ }
+{
+    let way = s[0];
+    let mut code = [0u8; 64];
+    for i in 0..64 {
+        code[i] = s[i + 1];
+    }
+    Run { way, code }
+}
+
+// The state laid into 65 lent bytes.
+pub fn store(r: Run, s: &mut [u8])
+    requires { ⌜ length (now s) ≡ 65 ⌝ }
+    ensures { λ _. ⌜ now (s .exit) ≡ bytesOf r ⌝ }
+{
+    s[0] = r.way;
+    let code = r.code;
+    for i in 0..64 {
+        s[i + 1] = code[i];
+    }
 }

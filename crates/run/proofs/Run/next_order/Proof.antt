@@ -25,25 +25,25 @@ past5 : (c : tie.Else5) → Leads (c .before .before .before .before .before .be
 past5 c = past-5 _ _ _ (c .before .coded2 .ensures) (c .if5 .left) ∙ past4 (c .before .before)
 
 returns : tie.Need-returns
-returns c = lost-wait _ _ (got (c .before .lost-in .ensures) (c .if1 .taken))
+returns c = c .still .ensures ∙ lost-wait _ _ (got (c .before .before .lost-in .ensures) (c .before .if1 .taken))
 
 returns-2 : tie.Need-returns-2
 returns-2 c = return-now _ _ _ (c .before .before .to-return .ensures) (omega arith) _ (c .put .ensures) ∙ past1 (c .before .before .before)
 
 returns-3 : tie.Need-returns-3
-returns-3 c = return-wait _ _ _ (c .before .coded .ensures) (c .if3 .taken) ∙ past2 (c .before .before)
+returns-3 c = c .still2 .ensures ∙ return-wait _ _ _ (c .before .before .coded .ensures) (c .before .if3 .taken) ∙ past2 (c .before .before .before)
 
 returns-4 : tie.Need-returns-4
 returns-4 c = request-now _ _ _ (c .before .before .to-request .ensures) (omega arith) _ (c .put2 .ensures) ∙ past3 (c .before .before .before)
 
 returns-5 : tie.Need-returns-5
-returns-5 c = request-wait _ _ _ (c .before .coded2 .ensures) (c .if5 .taken) ∙ past4 (c .before .before)
+returns-5 c = c .still3 .ensures ∙ request-wait _ _ _ (c .before .before .coded2 .ensures) (c .before .if5 .taken) ∙ past4 (c .before .before .before)
 
 returns-6 : tie.Need-returns-6
-returns-6 c = end-off _ (c .if6 .taken) ∙ past5 (c .before .before)
+returns-6 c = c .still4 .ensures ∙ end-off _ (c .before .if6 .taken) ∙ past5 (c .before .before .before)
 
 returns-7 : tie.Need-returns-7
-returns-7 c = end-flown _ (c .if6 .left) ∙ past5 (c .before .before)
+returns-7 c = c .still5 .ensures ∙ end-flown _ (c .before .if6 .left) ∙ past5 (c .before .before .before)
 
 pub next-order-spec : {M : Type 1} → statement M
-next-order-spec = tie.close (tie.spec (search needs) (search needs) returns (search needs) (search needs) returns-2 (search needs) returns-3 (search needs) (search needs) returns-4 (search needs) returns-5 returns-6 returns-7)
+next-order-spec = tie.close (tie.spec (search needs) (search needs) (search needs) returns (search needs) (search needs) returns-2 (search needs) (search needs) returns-3 (search needs) (search needs) returns-4 (search needs) (search needs) returns-5 (search needs) returns-6 (search needs) returns-7)
