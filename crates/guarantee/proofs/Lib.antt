@@ -8,3 +8,5 @@ pub mod Moved
 pub mod Ends
 pub mod Bytes
 pub mod Whole
+pub mod Plans
+pub mod Flights

@@ -4,3 +4,4 @@ pub mod Calls
 pub mod Counted
 pub mod Demand
 pub mod Guarantee
+pub mod Flights
