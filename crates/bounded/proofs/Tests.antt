@@ -3,8 +3,9 @@
 use mathlib.Core.Path.{_≡_, refl, sym, ap₂}
 use mathlib.Core.Logic.{inl, inr}
 use mathlib.Core.Bool.{Bool, true, false, _&&_, _||_}
-use Prim.Native.Nat.{ℕ, zero, suc, _<_}
+use Prim.Native.Nat.{ℕ, zero, suc, _+_, _<_}
 use native.Mathlib.Nat.{not-suc-le-zero, le-refl}
+use native.Mathlib.Numerals.{add-one}
 use native.Mathlib.Omega.{arith}
 use Rattle.bounded.specs.Bounded.{any, all}
 use Rattle.bounded.proofs.Bools.{which, clash, off, last?, and-l, and-r, and-i, or-cases, or-l, or-r}
@@ -30,6 +31,10 @@ any-n f n e i h = off (f i) (λ p. clash (any f n) (any-i f n i h p) e)
 pub any-o : (f : ℕ → Bool) (n : ℕ) → ((i : ℕ) → i < n → f i ≡ true → ⊥) → any f n ≡ false
 any-o f n h = off (any f n) (λ e. let r = any-e f n e in h (r .0) (r .1) (r .2))
 
+pub any-suc : (f : ℕ → Bool) (n : ℕ) → any f (n + 1) ≡ any f n || f n
+unfolding any
+any-suc f n = rw add-one
+
 pub any-ext : (f g : ℕ → Bool) (n : ℕ) → ((i : ℕ) → i < n → f i ≡ g i) → any f n ≡ any g n
 unfolding any
 any-ext f g zero h = refl
@@ -54,6 +59,10 @@ all-n f (suc n) e = elim (which (f n)) [
   | inl p ↦ (let r = all-n f n (off (all f n) (λ q. clash (all f n && f n) (and-i (all f n) (f n) q p) e)) in (r .0, omega arith, r .2))
   | inr p ↦ (n, le-refl (suc n), p)
 ]
+
+pub all-suc : (f : ℕ → Bool) (n : ℕ) → all f (n + 1) ≡ all f n && f n
+unfolding all
+all-suc f n = rw add-one
 
 pub all-ext : (f g : ℕ → Bool) (n : ℕ) → ((i : ℕ) → i < n → f i ≡ g i) → all f n ≡ all g n
 unfolding all

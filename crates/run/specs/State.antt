@@ -23,19 +23,19 @@ is r c b = eqb (code r b) c
 unfoldable pub coded : Network → Run → ℕ → ℕ
 coded g r c = gather (is r c) (g .n)
 
-unfoldable pub free : Network → Run → ℕ
+abbrev pub free : Network → Run → ℕ
 free g r = coded g r 0
 
-unfoldable pub requested : Network → Run → ℕ
+abbrev pub requested : Network → Run → ℕ
 requested g r = coded g r 1
 
-unfoldable pub held : Network → Run → ℕ
+abbrev pub held : Network → Run → ℕ
 held g r = coded g r 2
 
-unfoldable pub lost : Network → Run → ℕ
+abbrev pub lost : Network → Run → ℕ
 lost g r = coded g r 3
 
-unfoldable pub returning : Network → Run → ℕ
+abbrev pub returning : Network → Run → ℕ
 returning g r = coded g r 4
 
 -- ---- changes

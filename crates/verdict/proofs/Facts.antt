@@ -2,10 +2,9 @@
 -- Assumes nothing.
 use mathlib.Core.Path.{_≡_}
 use mathlib.Core.Logic.{_≢_, _⊎_}
-use mathlib.Core.Bool.{Bool, true, false}
+use mathlib.Core.Bool.{true, false}
 use Prim.Native.Nat.{ℕ, _≤_, _<_}
 use Rattle.bounded.proofs.Bools.{clash}
-use Rattle.sets.specs.Sets.{member}
 use Rattle.sets.proofs.Members.{member-zero}
 use Rattle.verdict.specs.Network.{wayOf, inWay, pre, firm, exposed}
 use Rattle.verdict.specs.declared.Network.{Network}

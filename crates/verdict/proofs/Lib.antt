@@ -1,3 +1,6 @@
 pub mod Members
 pub mod Facts
 pub mod Pass
+pub mod Links
+pub mod Parts
+pub mod Exits

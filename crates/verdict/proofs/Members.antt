@@ -1,14 +1,14 @@
 -- Sets made by a test, subsets, sets apart and sets that are not empty, as facts about members. e takes a fact out, i brings one in.
 -- Assumes nothing.
 use mathlib.Core.Path.{_≡_, refl, sym, ap, _∙_}
-use mathlib.Core.Logic.{_⊎_, inl, inr}
+use mathlib.Core.Logic.{inl, inr}
 use mathlib.Core.Bool.{Bool, true, false, not, _&&_}
-use Prim.Native.Nat.{ℕ, zero, suc, _+_, _*_, _^_, _≤_, _<_}
+use Prim.Native.Nat.{ℕ, zero, suc, _<_}
 use native.Mathlib.Nat.{zero-mul, zero-add, le-refl}
 use native.Mathlib.Omega.{arith}
 use lib.Dec.{eqb}
-use borrow.Author.Tests.{eqb-true, eqb-false, eq-eqb}
-use Rattle.bounded.specs.Bounded.{imp, one, all}
+use borrow.Author.Tests.{eqb-true}
+use Rattle.bounded.specs.Bounded.{one}
 use Rattle.bounded.proofs.Bools.{which, clash, off, split?, and-l, and-r, and-i, not-t, not-f, not-i, imp-e, imp-i}
 use Rattle.bounded.proofs.Tests.{all-i, all-e, all-n}
 use Rattle.sets.specs.Sets.{member, gather, kept, subsetOf, apart, disjointFrom}

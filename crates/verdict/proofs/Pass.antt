@@ -1,23 +1,23 @@
 -- A network of the right shape that the check passes has what the campaign needs.
 -- Assumes nothing.
-use mathlib.Core.Path.{_≡_, refl, sym}
-use mathlib.Core.Logic.{_≢_, _⊎_, inl, inr}
-use mathlib.Core.Bool.{Bool, true, false, not, _&&_, _||_, cond}
+use mathlib.Core.Path.{_≡_, refl}
+use mathlib.Core.Logic.{inl, inr}
+use mathlib.Core.Bool.{true, false, _&&_}
 use Prim.Native.Nat.{ℕ, zero, suc, _≤_, _<_}
 use native.Mathlib.Omega.{arith}
 use lib.Dec.{eqb, ltb}
-use borrow.Author.Tests.{ltb-true, eqb-true, eqb-false, ne-eqb}
-use Rattle.bounded.specs.Bounded.{imp, any, all, first}
-use Rattle.bounded.proofs.Bools.{which, clash, off, and-l, and-r, _&_, or-cases, not-t, not-i, imp-e, by-cond}
+use borrow.Author.Tests.{ltb-true, eqb-true, ne-eqb}
+use Rattle.bounded.specs.Bounded.{any, all}
+use Rattle.bounded.proofs.Bools.{which, clash, off, and-l, and-r, _&_, or-cases, not-i, imp-e, by-cond}
 use Rattle.bounded.proofs.Tests.{any-e, any-n, all-e}
 use Rattle.bounded.proofs.First.{first-none}
 use Rattle.sets.specs.Sets.{member, subsetOf}
-use Rattle.verdict.specs.Network.{wayOf, inWay, before, pre, firm, exposed, some}
+use Rattle.verdict.specs.Network.{wayOf, inWay, before, pre, exposed}
 use Rattle.verdict.specs.Check.{circular, gap, unclosed, unused, repeated, stays, staying, leadsTo, settledBy, safe, refuge, laterRefuge, stranding, strands, check, verdictNumber}
 use Rattle.verdict.specs.declared.Network.{Network}
 use Rattle.verdict.specs.declared.Verdict.{Verdict}
 use Rattle.verdict.specs.declared.Verdict.the-variants.{Pass}
-use Rattle.verdict.proofs.Members.{gather-i, subset-e, subset-i, some-i}
+use Rattle.verdict.proofs.Members.{gather-i, subset-e, some-i}
 use Rattle.verdict.proofs.Facts.{Stays, Refuge, Shape, Passes, some-way}
 
 -- refusals 4 to 8 are absent

@@ -1,2 +1,4 @@
 pub mod Network
+pub mod FromPlan
+pub mod Parts
 pub mod Check

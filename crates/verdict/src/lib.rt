@@ -1,4 +1,14 @@
 // What the rules look at in a plan that has been read and whose precedence is closed, and the check: refusals 4 to 8.
+use plan::Plan;
+ghost use mathlib.Core.Path.{_≡_};
+ghost use mathlib.Core.Bool.{not, _&&_, _||_};
+ghost use Prim.Native.Nat.{suc, _≤_, _<_};
+ghost use lib.Dec.{eqb};
+ghost use Rattle.bounded.specs.Bounded.{any, first};
+ghost use Rattle.sets.specs.Sets.{member, gather, subsetOf};
+ghost use Rattle.verdict.specs.FromPlan.{ofKind, directOf, networkOf, Ends};
+ghost use Rattle.verdict.specs.Parts.{circularIn, gapIn, unclosedIn, usedBelow, repeatedIn, staysIn, leadsAll, shelters, sheltersAfter, net};
+ghost use Rattle.verdict.specs.Check.{stranding, strands, check};
 
 // A plan as the rules see it. Booking number b is index b - 1 and bit b - 1 of every set; way[k] is way number k + 1.
 // before[v] has all bookings that precede v, by one link or by a chain of links.
@@ -19,4 +29,334 @@ pub enum Verdict {
     Unused(usize),
     Repeated(usize),
     Stranding(usize, usize),
+}
+
+// Whether k is one of two kinds.
+fn is_either(k: u8, x: u8, y: u8) -> bool
+    ensures { λ r. ⌜ r ≡ (eqb k x || eqb k y) ⌝ }
+{
+    if k == x {
+        return true;
+    }
+    k == y
+}
+
+// The bookings of one of two kinds.
+fn of_kind(x: u8, y: u8, kind: [u8; 64], n: usize) -> u64
+    requires { ⌜ n ≤ 64 ⌝ }
+    ensures { λ r. ⌜ r ≡ gather (ofKind x y kind) n ⌝ }
+{
+    let mut s: u64 = 0;
+    for b in 0..n {
+        if is_either(kind[b], x, y) {
+            s = s | sets::bit(b);
+        }
+    }
+    s
+}
+
+// The direct predecessors of each booking, by the first m links.
+fn direct(from: [u8; 512], to: [u8; 512], m: usize) -> [u64; 64]
+    requires { ⌜ Ends from to m ⌝ }
+    ensures { λ r. ⌜ r ≡ directOf from to m ⌝ }
+{
+    let mut d = [0u64; 64];
+    for i in 0..m {
+        let u = from[i] as usize - 1;
+        let v = to[i] as usize - 1;
+        d[v] = sets::with(d[v], u);
+    }
+    d
+}
+
+// What the rules look at in a plan.
+pub fn network_of(p: Plan) -> Network
+    requires { ⌜ (p .n ≤ 64) × Ends (p .from) (p .to) (p .m) ⌝ }
+    ensures { λ r. ⌜ r ≡ networkOf p ⌝ }
+{
+    let kind = p.kind;
+    let from = p.from;
+    let to = p.to;
+    let way = p.way;
+    let links = direct(from, to, p.m);
+    let before = precedence::closure(links);
+    let firm = of_kind(b'P', b'R', kind, p.n);
+    let exposed = of_kind(b'C', b'P', kind, p.n);
+    Network {
+        n: p.n,
+        a: p.a,
+        way,
+        before,
+        firm,
+        exposed,
+    }
+}
+
+// 4: the lowest booking that precedes itself, or n.
+fn lowest_circular(before: &[u64; 64], n: usize) -> usize
+    requires { ⌜ n ≤ 64 ⌝ }
+    ensures { λ r. ⌜ r ≡ first (circularIn (now (before .entry))) n ⌝ }
+{
+    for b in 0..n {
+        if sets::has(before[b], b) {
+            return b;
+        }
+    }
+    n
+}
+
+// Whether v is in the way s, and not all of its predecessors are.
+fn has_gap(pred: u64, s: u64, v: usize) -> bool
+    requires { ⌜ v < 64 ⌝ }
+    ensures { λ r. ⌜ r ≡ (member s v && not (subsetOf pred s)) ⌝ }
+{
+    if sets::has(s, v) {
+        return !sets::subset(pred, s);
+    }
+    false
+}
+
+// Whether the way s has a booking but not all that precede it.
+fn is_unclosed(before: &[u64; 64], s: u64, n: usize) -> bool
+    requires { ⌜ n ≤ 64 ⌝ }
+    ensures { λ r. ⌜ r ≡ any (gapIn (now (before .entry)) s) n ⌝ }
+{
+    for v in 0..n {
+        if has_gap(before[v], s, v) {
+            return true;
+        }
+    }
+    false
+}
+
+// 5: the first way, by index, that has a booking but not all that precede it, or a.
+fn first_unclosed(before: &[u64; 64], way: &[u64; 16], n: usize, a: usize) -> usize
+    requires { ⌜ (n ≤ 64) × (a ≤ 16) ⌝ }
+    ensures { λ r. ⌜ r ≡ first (unclosedIn (now (before .entry)) (now (way .entry)) n) a ⌝ }
+{
+    for k in 0..a {
+        if is_unclosed(before, way[k], n) {
+            return k;
+        }
+    }
+    a
+}
+
+// The bookings of the first a ways.
+fn used(way: [u64; 16], a: usize) -> u64
+    requires { ⌜ a ≤ 16 ⌝ }
+    ensures { λ r. ⌜ r ≡ gather (usedBelow way a) 64 ⌝ }
+{
+    let mut s: u64 = 0;
+    for k in 0..a {
+        s = s | way[k];
+    }
+    s
+}
+
+// 7: whether an earlier way equals way k + 1.
+fn is_repeated(way: &[u64; 16], k: usize) -> bool
+    requires { ⌜ k < 16 ⌝ }
+    ensures { λ r. ⌜ r ≡ repeatedIn (now (way .entry)) k ⌝ }
+{
+    for j in 0..k {
+        if way[j] == way[k] {
+            return true;
+        }
+    }
+    false
+}
+
+// The first way, by index, that equals an earlier one, or a.
+fn first_repeated(way: &[u64; 16], a: usize) -> usize
+    requires { ⌜ a ≤ 16 ⌝ }
+    ensures { λ r. ⌜ r ≡ first (repeatedIn (now (way .entry))) a ⌝ }
+{
+    for k in 0..a {
+        if is_repeated(way, k) {
+            return k;
+        }
+    }
+    a
+}
+
+// Whether s is in the set of firm bookings, is not x, and x does not precede it.
+fn is_staying(firm: u64, pred: u64, x: usize, s: usize) -> bool
+    requires { ⌜ (x < 64) × (s < 64) ⌝ }
+    ensures { λ r. ⌜ r ≡ (member firm s && (not (eqb s x) && not (member pred x))) ⌝ }
+{
+    if sets::has(firm, s) {
+        if s == x {
+            return false;
+        }
+        return !sets::has(pred, x);
+    }
+    false
+}
+
+// S: the firm bookings of a way other than x that x does not precede.
+fn staying(firm: u64, before: &[u64; 64], n: usize, x: usize) -> u64
+    requires { ⌜ (n ≤ 64) × (x < 64) ⌝ }
+    ensures { λ r. ⌜ r ≡ gather (staysIn firm (now (before .entry)) x) n ⌝ }
+{
+    let mut r: u64 = 0;
+    for s in 0..n {
+        if is_staying(firm, before[s], x, s) {
+            r = r | sets::bit(s);
+        }
+    }
+    r
+}
+
+// The bookings that equal or precede every member of s below n.
+fn leading(s: u64, before: &[u64; 64], n: usize) -> u64
+    requires { ⌜ n ≤ 64 ⌝ }
+    ensures { λ r. ⌜ r ≡ gather (leadsAll s (now (before .entry)) n) 64 ⌝ }
+{
+    let mut r = sets::all_below(64);
+    for i in 0..n {
+        if sets::has(s, i) {
+            r = r & sets::with(before[i], i);
+        }
+    }
+    r
+}
+
+// Whether a way has all of s, and no exposed booking outside ok.
+fn is_shelter(s: u64, ok: u64, exposed: u64, way: u64) -> bool
+    ensures { λ r. ⌜ r ≡ shelters s ok exposed way ⌝ }
+{
+    if sets::subset(s, way) {
+        return sets::subset(exposed & way, ok);
+    }
+    false
+}
+
+// Whether one of the ways after way w is such a way.
+fn is_sheltered(s: u64, ok: u64, exposed: u64, way: &[u64; 16], w: usize, a: usize) -> bool
+    requires { ⌜ (w ≤ a) × (a ≤ 16) ⌝ }
+    ensures { λ r. ⌜ r ≡ any (sheltersAfter s ok exposed (now (way .entry)) w) a ⌝ }
+{
+    for k in w..a {
+        if is_shelter(s, ok, exposed, way[k]) {
+            return true;
+        }
+    }
+    false
+}
+
+// 8: whether x is an exposed booking of way k + 1 that leaves something firm behind with no later way to go to.
+fn is_stranding(
+    before: &[u64; 64],
+    way: &[u64; 16],
+    firm: u64,
+    exposed: u64,
+    n: usize,
+    a: usize,
+    k: usize,
+    x: usize,
+) -> bool
+    requires { ⌜ (n ≤ 64) × (a ≤ 16) × (k < a) × (x < 64) ⌝ }
+    ensures { λ r. ⌜ r ≡ stranding (net n a (now (way .entry)) (now (before .entry)) firm exposed) (suc k) x ⌝ }
+{
+    let here = way[k];
+    if !sets::has(exposed & here, x) {
+        return false;
+    }
+    let stay = staying(firm & here, before, n, x);
+    if stay == 0 {
+        return false;
+    }
+    let ok = before[x] | leading(stay, before, n);
+    !is_sheltered(stay, ok, exposed, way, k + 1, a)
+}
+
+// The lowest stranding booking of way k + 1, or n.
+fn first_stranding(
+    before: &[u64; 64],
+    way: &[u64; 16],
+    firm: u64,
+    exposed: u64,
+    n: usize,
+    a: usize,
+    k: usize,
+) -> usize
+    requires { ⌜ (n ≤ 64) × (a ≤ 16) × (k < a) ⌝ }
+    ensures { λ r. ⌜ r ≡ first (stranding (net n a (now (way .entry)) (now (before .entry)) firm exposed) (suc k)) n ⌝ }
+{
+    for x in 0..n {
+        if is_stranding(before, way, firm, exposed, n, a, k, x) {
+            return x;
+        }
+    }
+    n
+}
+
+// Whether some booking of way k + 1 strands.
+fn strands(
+    before: &[u64; 64],
+    way: &[u64; 16],
+    firm: u64,
+    exposed: u64,
+    n: usize,
+    a: usize,
+    k: usize,
+) -> bool
+    requires { ⌜ (n ≤ 64) × (a ≤ 16) × (k < a) ⌝ }
+    ensures { λ r. ⌜ r ≡ strands (net n a (now (way .entry)) (now (before .entry)) firm exposed) k ⌝ }
+{
+    first_stranding(before, way, firm, exposed, n, a, k) < n
+}
+
+// The first way, by index, in which some booking strands, or a.
+fn first_strands(
+    before: &[u64; 64],
+    way: &[u64; 16],
+    firm: u64,
+    exposed: u64,
+    n: usize,
+    a: usize,
+) -> usize
+    requires { ⌜ (n ≤ 64) × (a ≤ 16) ⌝ }
+    ensures { λ r. ⌜ r ≡ first (strands (net n a (now (way .entry)) (now (before .entry)) firm exposed)) a ⌝ }
+{
+    for k in 0..a {
+        if strands(before, way, firm, exposed, n, a, k) {
+            return k;
+        }
+    }
+    a
+}
+
+// The check: the first fault, in the order of the refusals.
+pub fn check(g: Network) -> Verdict
+    requires { ⌜ (g .n ≤ 64) × (g .a ≤ 16) ⌝ }
+    ensures { λ r. ⌜ r ≡ check g ⌝ }
+{
+    let n = g.n;
+    let a = g.a;
+    let way = g.way;
+    let before = g.before;
+    let b4 = lowest_circular(&before, n);
+    if b4 < n {
+        return Verdict::Circular(b4);
+    }
+    let k5 = first_unclosed(&before, &way, n, a);
+    if k5 < a {
+        return Verdict::Unclosed(k5 + 1);
+    }
+    let b6 = sets::lowest(sets::minus(sets::all_below(n), used(way, a)));
+    if b6 < n {
+        return Verdict::Unused(b6);
+    }
+    let k7 = first_repeated(&way, a);
+    if k7 < a {
+        return Verdict::Repeated(k7 + 1);
+    }
+    let k8 = first_strands(&before, &way, g.firm, g.exposed, n, a);
+    if k8 < a {
+        let b8 = first_stranding(&before, &way, g.firm, g.exposed, n, a, k8);
+        return Verdict::Stranding(k8 + 1, b8);
+    }
+    Verdict::Pass
 }

@@ -1,0 +1,12 @@
+pub mod Change
+pub mod Switch
+pub mod Reply
+pub mod Next
+pub mod Start
+pub mod Potential
+pub mod Moved
+pub mod Ends
+pub mod Bytes
+pub mod Whole
+pub mod Plans
+pub mod Flights

@@ -1,0 +1,103 @@
+-- The flights that are proved of the rules, as one table: a plan, what the check says of it, and what calls from the start answer.
+-- Assumes nothing.
+use mathlib.Core.List.{List, [], _∷_, map}
+use Prim.Native.Nat.{ℕ, pred}
+use lib.ListN.{length}
+use Rattle.sets.specs.Sets.{insert}
+use Rattle.plan.specs.declared.Plan.{Plan}
+use Rattle.verdict.specs.FromPlan.{networkOf}
+use Rattle.verdict.specs.Check.{check}
+use Rattle.run.specs.State.{start}
+use Rattle.run.specs.Replies.{Y, N, G, K}
+use Rattle.guarantee.specs.Answers.{pack, checkBits}
+use Rattle.guarantee.specs.Machine.{Asked, nextOrder, replied, machineAnswers}
+
+pub record Flight : Type 0 where
+  pub plan : Plan
+  pub calls : List Asked
+  -- the 32 bits of the check, then of each call
+  pub expected : List ℕ
+
+-- what the rules give
+unfoldable pub outcome : Flight → List ℕ
+outcome f = let g = networkOf (f .plan) in checkBits (check g) ∷ machineAnswers g start (f .calls)
+
+-- ---- plans by their letters, links and ways, all by number
+
+pub record Link : Type 0 where
+  pub from : ℕ
+  pub to : ℕ
+
+unfoldable pub link : ℕ → ℕ → Link
+link u v = record { from = u; to = v }
+
+unfoldable pub setOf : List ℕ → ℕ
+setOf [] = 0
+setOf (b ∷ bs) = insert (setOf bs) (pred b)
+
+unfoldable pub planOf : List ℕ → List Link → List (List ℕ) → Plan
+planOf ks ls ws =
+    record { n = length ks; m = length ls; a = length ws; kind = ks; from = map (λ l. l .from) ls; to = map (λ l. l .to) ls; way = map setOf ws }
+
+abbrev pub C : ℕ
+C = 67
+
+abbrev pub P : ℕ
+P = 80
+
+abbrev pub R : ℕ
+R = 82
+
+-- ---- answers
+
+unfoldable pub passes : ℕ
+passes = pack 6 0 0
+
+unfoldable pub refuses : ℕ → ℕ → ℕ
+refuses number place = pack 0 number place
+
+unfoldable pub request : ℕ → ℕ
+request b = pack 1 0 b
+
+unfoldable pub return : ℕ → ℕ
+return b = pack 2 0 b
+
+unfoldable pub accepted : ℕ → ℕ
+accepted b = pack 6 0 b
+
+unfoldable pub calledOff : ℕ
+calledOff = pack 5 0 0
+
+-- a plan that is checked only
+unfoldable pub checked : List ℕ → List Link → List (List ℕ) → ℕ → Flight
+checked ks ls ws x = record { plan = planOf ks ls ws; calls = []; expected = x ∷ [] }
+
+-- a plan that passes and is run
+unfoldable pub flown : List ℕ → List (List ℕ) → List Asked → List ℕ → Flight
+flown ks ws qs xs = record { plan = planOf ks [] ws; calls = qs; expected = passes ∷ xs }
+
+unfoldable pub flights : List Flight
+flights =
+    -- the tanker
+    checked (C ∷ P ∷ C ∷ R ∷ []) (link 1 2 ∷ link 2 3 ∷ link 2 4 ∷ []) ((1 ∷ 2 ∷ 3 ∷ []) ∷ (1 ∷ 2 ∷ 4 ∷ []) ∷ []) passes
+    -- the tanker without booking 4, its link and way 2
+    ∷ checked (C ∷ P ∷ C ∷ []) (link 1 2 ∷ link 2 3 ∷ []) ((1 ∷ 2 ∷ 3 ∷ []) ∷ []) (refuses 8 259)
+    -- two pivots without a link in one way
+    ∷ checked (P ∷ P ∷ []) [] ((1 ∷ 2 ∷ []) ∷ []) (refuses 8 257)
+    -- a pivot and a repeatable, and the repeatable alone as second way; then as first
+    ∷ checked (P ∷ R ∷ []) [] ((1 ∷ 2 ∷ []) ∷ (2 ∷ []) ∷ []) passes
+    ∷ checked (P ∷ R ∷ []) [] ((2 ∷ []) ∷ (1 ∷ 2 ∷ []) ∷ []) (refuses 8 513)
+    -- a circle
+    ∷ checked (C ∷ C ∷ []) (link 1 2 ∷ link 2 1 ∷ []) ((1 ∷ 2 ∷ []) ∷ []) (refuses 4 1)
+    -- a way without what precedes its booking
+    ∷ checked (C ∷ C ∷ []) (link 1 2 ∷ []) ((1 ∷ 2 ∷ []) ∷ (2 ∷ []) ∷ []) (refuses 5 2)
+    -- one returnable booking, refused
+    ∷ flown (C ∷ []) ((1 ∷ []) ∷ []) (nextOrder ∷ replied N 1 ∷ nextOrder ∷ []) (request 1 ∷ accepted 1 ∷ calledOff ∷ [])
+    -- two of them: one held and one refused, so the held one goes back
+    ∷ flown (C ∷ C ∷ []) ((1 ∷ 2 ∷ []) ∷ []) (nextOrder ∷ nextOrder ∷ replied Y 1 ∷ replied N 2 ∷ nextOrder ∷ [])
+    (request 1 ∷ request 2 ∷ accepted 1 ∷ accepted 2 ∷ return 1 ∷ [])
+    -- its return fails once
+    ∷ flown (C ∷ C ∷ []) ((1 ∷ 2 ∷ []) ∷ [])
+    (nextOrder ∷ nextOrder ∷ replied Y 1 ∷ replied N 2 ∷ nextOrder ∷ replied K 1 ∷ nextOrder ∷ replied G 1 ∷ nextOrder ∷ [])
+    (request 1 ∷ request 2 ∷ accepted 1 ∷ accepted 2 ∷ return 1 ∷ accepted 1 ∷ return 1 ∷ accepted 1 ∷ calledOff ∷ [])
+    ∷ []

@@ -1,0 +1,7 @@
+pub mod Answers
+pub mod Machine
+pub mod Calls
+pub mod Counted
+pub mod Demand
+pub mod Guarantee
+pub mod Flights

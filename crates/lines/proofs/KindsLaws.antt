@@ -1,0 +1,45 @@
+-- What the loop that reads the lines of the bookings has in hand at each turn. `whole` is the answer that all of the lines have: what is
+-- left gives it, and each turn keeps that.
+-- Assumes nothing.
+use Prim.Native.Nat.{ℕ, suc, _+_, _*_, _-_, _<_, _≤_}
+use mathlib.Core.Path.{_≡_, refl, sym, ap, _∙_}
+use mathlib.Core.List.{List}
+use native.Mathlib.Omega.{arith}
+use lib.ListN.{take, drop, set}
+use lib.Seq.{drop-drop}
+use Rattle.lines.specs.Booking.{bookingOf}
+use Rattle.lines.specs.Kinds.{afterBooking, kindsOf}
+use Rattle.lines.specs.declared.Booking.{Booking}
+use Rattle.lines.specs.declared.Booking.the-variants.{Kind, Malformed, OutOfSequence}
+use Rattle.lines.specs.declared.Judged.the-variants.{Fine, Form, Sequence}
+use Rattle.lines.specs.declared.Kinds.{Kinds}
+
+-- one line, and the rest
+step : (n i : ℕ) (rest ks : List ℕ) → i < n
+    → kindsOf (n - i) i rest ks ≡ afterBooking (bookingOf (take 8 rest) (i + 1)) (i + 2) ks (λ k. kindsOf (n - (i + 1)) (i + 1) (drop 8 rest) (set ks i k))
+unfolding kindsOf
+step n i rest ks h =
+    let e : n - i ≡ suc (n - (i + 1)) = omega arith in
+    rw e
+
+module _ (n at i : ℕ) (s ks line : List ℕ) (b : Booking) (whole : Kinds) (h : i < n) (l : line ≡ take 8 (drop (at + 8 * i) s)) (e : b ≡ bookingOf line (i + 1))
+    (w : kindsOf (n - i) i (drop (at + 8 * i) s) ks ≡ whole) where
+  turned : afterBooking b (i + 2) ks (λ k. kindsOf (n - (i + 1)) (i + 1) (drop (at + 8 * (i + 1)) s) (set ks i k)) ≡ whole
+  turned =
+      let d : at + 8 * i + 8 ≡ at + 8 * (i + 1) = omega arith in
+      rw (e, l, ← d, ← drop-drop 8 (at + 8 * i) s, ← step n i (drop (at + 8 * i) s) ks h) w
+
+  pub went-on : (k : ℕ) → b ≡ Kind k → kindsOf (n - (i + 1)) (i + 1) (drop (at + 8 * (i + 1)) s) (set ks i k) ≡ whole
+  went-on k g = rw g at turned
+
+  pub ill-formed : b ≡ Malformed → record { judged = Form (i + 2); kind = ks } ≡ whole
+  ill-formed g = rw g at turned
+
+  pub out-of-sequence : b ≡ OutOfSequence → record { judged = Sequence (i + 2); kind = ks } ≡ whole
+  out-of-sequence g = rw g at turned
+
+pub ended : (n i : ℕ) (rest ks : List ℕ) (whole : Kinds) → n ≤ i → kindsOf (n - i) i rest ks ≡ whole → record { judged = Fine; kind = ks } ≡ whole
+unfolding kindsOf
+ended n i rest ks whole h w =
+    let e : n - i ≡ 0 = omega arith in
+    rw e at w

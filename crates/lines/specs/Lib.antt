@@ -1,0 +1,6 @@
+pub mod Form
+pub mod Head
+pub mod Booking
+pub mod Link
+pub mod Kinds
+pub mod Links

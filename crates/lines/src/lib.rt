@@ -1,0 +1,252 @@
+// The lines of a fixed width of a plan sheet: the head, the bookings, the links. Each is read from a part of the sheet, and written
+// into a lent buffer.
+use decimal::Field;
+ghost use mathlib.Core.Path.{_≡_};
+ghost use Prim.Native.Nat.{_+_, _*_, _≤_, _<_};
+ghost use lib.ListN.{length, drop};
+ghost use lib.Seq.{sets};
+ghost use Rattle.plan.specs.Limits.{mostBookings, mostLinks};
+ghost use Rattle.lines.specs.Form.{isFramed};
+ghost use Rattle.lines.specs.Head.{headText, headOf};
+ghost use Rattle.lines.specs.Booking.{bookingText, bookingOf};
+ghost use Rattle.lines.specs.Link.{linkText, linkOf};
+ghost use Rattle.lines.specs.Kinds.{kindsText, kindsOf, noKinds};
+ghost use Rattle.lines.specs.Links.{linksText, linksOf, noLinks};
+
+// What the head line holds: the counts of bookings, links and ways, or why it is refused.
+pub enum Head {
+    Counts(usize, usize, usize),
+    Malformed,
+    OutOfLimits,
+}
+
+// What a booking's line holds: the letter of its kind, or why it is refused.
+pub enum Booking {
+    Kind(u8),
+    Malformed,
+    OutOfSequence,
+}
+
+// What a link's line holds: two bookings by number, or why it is refused.
+pub enum Link {
+    Pair(u8, u8),
+    Malformed,
+    OutOfSequence,
+}
+
+// What the lines read so far are: fine, or refused for their form, a count or a number, with the line.
+pub enum Judged {
+    Fine,
+    Form(usize),
+    Count(usize),
+    Sequence(usize),
+}
+
+// The kinds that the lines of the bookings give; up to the refused line, if one is.
+pub struct Kinds {
+    pub judged: Judged,
+    pub kind: [u8; 64],
+}
+
+// The links that their lines give; up to the refused line, if one is.
+pub struct Links {
+    pub judged: Judged,
+    pub from: [u8; 512],
+    pub to: [u8; 512],
+}
+
+// Whether a line has w bytes, begins with a letter and ends in a line feed.
+fn is_framed(line: &[u8], letter: u8, w: usize) -> bool
+    requires { ⌜ 1 ≤ w ⌝ }
+    ensures { λ r. ⌜ r ≡ isFramed letter w (now (line .entry)) ⌝ }
+{
+    if line.len() != w {
+        return false;
+    }
+    if line[0] != letter {
+        return false;
+    }
+    line[w - 1] == 10
+}
+
+// Reads the head line.
+pub fn read_head(line: &[u8]) -> Head
+    ensures { λ r. ⌜ r ≡ headOf (now (line .entry)) ⌝ }
+{
+    if !is_framed(line, b'P', 14) {
+        return Head::Malformed;
+    }
+    let Field::Number(n) = decimal::field_at(line, 1, 4) else {
+        return Head::Malformed;
+    };
+    let Field::Number(m) = decimal::field_at(line, 5, 4) else {
+        return Head::Malformed;
+    };
+    let Field::Number(a) = decimal::field_at(line, 9, 4) else {
+        return Head::Malformed;
+    };
+    if !plan::in_limits(n, m, a) {
+        return Head::OutOfLimits;
+    }
+    Head::Counts(n, m, a)
+}
+
+// Reads the line of booking number x.
+pub fn read_booking(line: &[u8], x: usize) -> Booking
+    ensures { λ r. ⌜ r ≡ bookingOf (now (line .entry)) x ⌝ }
+{
+    if !is_framed(line, b'B', 8) {
+        return Booking::Malformed;
+    }
+    let Field::Number(y) = decimal::field_at(line, 1, 4) else {
+        return Booking::Malformed;
+    };
+    if line[5] != b' ' {
+        return Booking::Malformed;
+    }
+    let k = line[6];
+    if !plan::known_kind(k) {
+        return Booking::Malformed;
+    }
+    if y != x {
+        return Booking::OutOfSequence;
+    }
+    Booking::Kind(k)
+}
+
+// Reads a link's line in a plan of n bookings, after the link from pu to pv.
+pub fn read_link(line: &[u8], n: usize, pu: usize, pv: usize) -> Link
+    requires { ⌜ n ≤ mostBookings ⌝ }
+    ensures { λ r. ⌜ r ≡ linkOf (now (line .entry)) n pu pv ⌝ }
+{
+    if !is_framed(line, b'L', 10) {
+        return Link::Malformed;
+    }
+    let Field::Number(u) = decimal::field_at(line, 1, 4) else {
+        return Link::Malformed;
+    };
+    let Field::Number(v) = decimal::field_at(line, 5, 4) else {
+        return Link::Malformed;
+    };
+    if !plan::in_sequence(n, pu, pv, u, v) {
+        return Link::OutOfSequence;
+    }
+    Link::Pair(u as u8, v as u8)
+}
+
+// Reads the lines of the bookings 1 to n, which start at at.
+pub fn read_kinds(s: &[u8], at: usize, n: usize) -> Kinds
+    requires { ⌜ (n ≤ mostBookings) × (at < 65536) ⌝ }
+    ensures { λ r. ⌜ r ≡ kindsOf n 0 (drop at (now (s .entry))) noKinds ⌝ }
+{
+    let mut kind = [0u8; 64];
+    let mut i = 0;
+    while i < n {
+        let line = decimal::part(s, at + 8 * i, 8);
+        match read_booking(line, i + 1) {
+            Booking::Kind(k) => {
+                kind[i] = k;
+            }
+            Booking::Malformed => {
+                return Kinds { judged: Judged::Form(i + 2), kind };
+            }
+            Booking::OutOfSequence => {
+                return Kinds { judged: Judged::Sequence(i + 2), kind };
+            }
+        }
+        i += 1;
+    }
+    Kinds { judged: Judged::Fine, kind }
+}
+
+// Reads the lines of m links, which start at at, in a plan of n bookings.
+pub fn read_links(s: &[u8], at: usize, n: usize, m: usize) -> Links
+    requires { ⌜ (n ≤ mostBookings) × (m ≤ mostLinks) × (at < 65536) ⌝ }
+    ensures { λ r. ⌜ r ≡ linksOf n m 0 (drop at (now (s .entry))) 0 0 noLinks noLinks ⌝ }
+{
+    let mut from = [0u8; 512];
+    let mut to = [0u8; 512];
+    let mut pu = 0;
+    let mut pv = 0;
+    let mut i = 0;
+    while i < m {
+        let line = decimal::part(s, at + 10 * i, 10);
+        match read_link(line, n, pu, pv) {
+            Link::Pair(u, v) => {
+                from[i] = u;
+                to[i] = v;
+                pu = u as usize;
+                pv = v as usize;
+            }
+            Link::Malformed => {
+                return Links { judged: Judged::Form(n + 2 + i), from, to };
+            }
+            Link::OutOfSequence => {
+                return Links { judged: Judged::Sequence(n + 2 + i), from, to };
+            }
+        }
+        i += 1;
+    }
+    Links { judged: Judged::Fine, from, to }
+}
+
+// Writes the head line at the front.
+pub fn write_head(buf: &mut [u8], n: usize, m: usize, a: usize)
+    requires { ⌜ 14 ≤ length (now buf) ⌝ }
+    ensures { λ _. ⌜ now (buf .exit) ≡ sets (now (buf .entry)) 0 (headText n m a) ⌝ }
+{
+    decimal::write_byte(buf, 0, b'P');
+    decimal::write_field(buf, 1, 4, n);
+    decimal::write_field(buf, 5, 4, m);
+    decimal::write_field(buf, 9, 4, a);
+    decimal::write_byte(buf, 13, 10);
+}
+
+// Writes the line of booking number x, of kind k, from at on.
+pub fn write_booking(buf: &mut [u8], at: usize, x: usize, k: u8)
+    requires { ⌜ at + 8 ≤ length (now buf) ⌝ }
+    ensures { λ _. ⌜ now (buf .exit) ≡ sets (now (buf .entry)) at (bookingText x k) ⌝ }
+{
+    decimal::write_byte(buf, at, b'B');
+    decimal::write_field(buf, at + 1, 4, x);
+    decimal::write_byte(buf, at + 5, b' ');
+    decimal::write_byte(buf, at + 6, k);
+    decimal::write_byte(buf, at + 7, 10);
+}
+
+// Writes the line of the link from u to v from at on.
+pub fn write_link(buf: &mut [u8], at: usize, u: usize, v: usize)
+    requires { ⌜ at + 10 ≤ length (now buf) ⌝ }
+    ensures { λ _. ⌜ now (buf .exit) ≡ sets (now (buf .entry)) at (linkText u v) ⌝ }
+{
+    decimal::write_byte(buf, at, b'L');
+    decimal::write_field(buf, at + 1, 4, u);
+    decimal::write_field(buf, at + 5, 4, v);
+    decimal::write_byte(buf, at + 9, 10);
+}
+
+// Writes the lines of the bookings 1 to n from at on.
+pub fn write_kinds(buf: &mut [u8], at: usize, n: usize, kind: [u8; 64])
+    requires { ⌜ (n ≤ mostBookings) × (at + 8 * n ≤ length (now buf)) ⌝ }
+    ensures { λ _. ⌜ now (buf .exit) ≡ sets (now (buf .entry)) at (kindsText n 0 kind) ⌝ }
+{
+    let mut i = 0;
+    while i < n {
+        write_booking(buf, at + 8 * i, i + 1, kind[i]);
+        i += 1;
+    }
+}
+
+// Writes the lines of m links from at on.
+pub fn write_links(buf: &mut [u8], at: usize, m: usize, from: [u8; 512], to: [u8; 512])
+    requires { ⌜ (m ≤ mostLinks) × (at + 10 * m ≤ length (now buf)) ⌝ }
+    ensures { λ _. ⌜ now (buf .exit) ≡ sets (now (buf .entry)) at (linksText m 0 from to) ⌝ }
+{
+    let mut i = 0;
+    while i < m {
+        let u = from[i] as usize;
+        let v = to[i] as usize;
+        write_link(buf, at + 10 * i, u, v);
+        i += 1;
+    }
+}

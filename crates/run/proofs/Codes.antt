@@ -1,0 +1,149 @@
+-- The sets that one pass over the codes gives, and what is made from them.
+-- Assumes nothing.
+use mathlib.Core.Path.{_≡_, refl, sym, ap, ap₂, _∙_}
+use mathlib.Core.Logic.{_≢_, inl, inr}
+use mathlib.Core.Bool.{Bool, true, false, not, _&&_, _||_, cond}
+use mathlib.Core.List.{List}
+use Prim.Native.Nat.{ℕ, zero, suc, _+_, _-_, _^_, _≤_, _<_}
+use native.Mathlib.Nat.{le-refl}
+use borrow.Author.Tests.{lt-ltb, le-ltb}
+use native.Mathlib.Numerals.{add-one}
+use native.Mathlib.Omega.{arith}
+use lib.Dec.{eqb}
+use lib.ListN.{getD}
+use lib.Bits.{bitAnd, bitOr}
+use Rattle.bounded.specs.Bounded.{any, first}
+use Rattle.bounded.proofs.Bools.{which}
+use Rattle.bounded.proofs.Tests.{any-ext}
+use Rattle.bounded.proofs.First.{first-ext}
+use Rattle.bounded.proofs.Loops.{So-far, first-at, first-over}
+use Rattle.sets.specs.Sets.{member, gather, without, subsetOf, disjointFrom}
+use Rattle.sets.proofs.Members.{member-and, member-or, member-zero}
+use Rattle.sets.proofs.Gather.{gather-is, member-gather}
+use Rattle.sets.proofs.Operations.{member-without}
+use Rattle.sets.proofs.Whole.{gather-and, gather-or, member-low}
+use Rattle.verdict.specs.declared.Network.{Network}
+use Rattle.verdict.specs.Network.{wayOf, inWay, before, pre, firm}
+use Rattle.run.specs.State.{is, coded, free, held, lost, heldFirmAt, heldFirm, lostIn, live, liveAt, firstLive}
+use Rattle.run.specs.Orders.{standsOn, needed, toReturn, ready, toRequest}
+use Rattle.run.specs.declared.Run.{Run}
+
+-- a code in the array that holds them
+unfoldable pub codeIs : List ℕ → ℕ → ℕ → Bool
+codeIs code c b = eqb (getD code b 0) c
+
+-- way w is entry w - 1
+pub way-entry : (g : Network) (w : ℕ) → w ≢ 0 → getD (g .way) (w - 1) 0 ≡ wayOf g w
+unfolding wayOf
+way-entry g zero d = absurd (d refl)
+way-entry g (suc k) d = ap (λ (i : ℕ). getD (g .way) i 0) (omega arith)
+
+and-assoc : (a b c : Bool) → (a && b) && c ≡ a && (b && c)
+and-assoc true b c = refl
+and-assoc false b c = refl
+
+-- what `if t { a } else { b }` gives on each side
+pub cond-on : {A : Type 0} (t : Bool) (a b : A) → t ≡ true → a ≡ cond t a b
+cond-on t a b e = rw e
+
+pub cond-off : {A : Type 0} (t : Bool) (a b : A) → t ≡ false → b ≡ cond t a b
+cond-off t a b e = rw e
+
+module _ (g : Network) (r : Run) where
+  pub held-firm-is : (s : ℕ) → s ≡ gather (is r 2) (g .n) → bitAnd s (g .firm) ≡ heldFirm g r
+  unfolding heldFirm heldFirmAt firm
+  held-firm-is s e = ap (λ (x : ℕ). bitAnd x (g .firm)) e ∙ gather-and (is r 2) (g .n) (g .firm)
+
+-- ---- live ways, from the ways' array, the lost and the held firm bookings
+
+unfoldable pub liveIn : ℕ → ℕ → List ℕ → ℕ → Bool
+liveIn l f ways k = not (not (disjointFrom (getD ways k 0) l)) && subsetOf f (getD ways k 0)
+
+module _ (g : Network) (r : Run) (l f : ℕ) (el : l ≡ gather (is r 3) (g .n)) (ef : f ≡ heldFirm g r) where
+  pub live-in : (k : ℕ) → liveIn l f (g .way) k ≡ liveAt g r k
+  unfolding liveIn liveAt live lostIn lost coded wayOf
+  live-in k = ap₂ (λ (a b : ℕ). not (not (disjointFrom (getD (g .way) k 0) a)) && subsetOf b (getD (g .way) k 0)) el ef
+
+  live-far : (k : ℕ) → So-far (liveIn l f (g .way)) k → So-far (liveAt g r) k
+  live-far k s j h = sym (live-in j) ∙ s j h
+
+  pub live-found : (k : ℕ) → So-far (liveIn l f (g .way)) k → k < g .a → liveIn l f (g .way) k ≡ true → k + 1 ≡ firstLive g r
+  unfolding firstLive
+  live-found k s h e = rw (← first-at (liveAt g r) (g .a) k (live-far k s) h (sym (live-in k) ∙ e), lt-ltb k (g .a) h) (add-one k)
+
+  pub live-none : (k : ℕ) → So-far (liveIn l f (g .way)) k → g .a ≤ k → 0 ≡ firstLive g r
+  unfolding firstLive
+  live-none k s h = rw (← first-over (liveAt g r) (g .a) k (live-far k s) h, le-ltb (g .a) (g .a) (le-refl (g .a)))
+
+-- ---- what is needed: the union of the predecessors of the busy
+
+-- v is busy and b precedes it
+unfoldable pub reach : ℕ → List ℕ → ℕ → ℕ → Bool
+reach busy sets b v = member busy v && member (getD sets v 0) b
+
+member-where : (t : Bool) (s b : ℕ) → member (cond t s 0) b ≡ t && member s b
+member-where true s b = refl
+member-where false s b = member-zero b
+
+pub reach-none : (busy : ℕ) (sets : List ℕ) (b : ℕ) → member 0 b ≡ any (reach busy sets b) 0
+unfolding any
+reach-none busy sets b = member-zero b
+
+pub reach-more : (busy : ℕ) (sets : List ℕ) (v s t : ℕ) → ((b : ℕ) → member s b ≡ any (reach busy sets b) v)
+    → t ≡ cond (member busy v) (getD sets v 0) 0 → (b : ℕ) → member (bitOr s t) b ≡ any (reach busy sets b) (v + 1)
+unfolding any reach
+reach-more busy sets v s t h e b =
+    rw (add-one v, e)
+    (member-or s (cond (member busy v) (getD sets v 0) 0) b
+    ∙ ap₂ (λ (p q : Bool). p || q) (h b) (member-where (member busy v) (getD sets v 0) b))
+
+-- what precedes b is part of p
+unfoldable pub readyIn : ℕ → List ℕ → ℕ → Bool
+readyIn p sets b = subsetOf (getD sets b 0) p
+
+module _ (g : Network) (r : Run) where
+  busy-at : (p q v : ℕ) → p ≡ gather (is r 2) (g .n) → q ≡ gather (is r 4) (g .n) → v < g .n
+      → member (bitOr p q) v ≡ is r 2 v || is r 4 v
+  busy-at p q v ep eq h =
+      ap (λ (x : ℕ). member x v) (ap₂ bitOr ep eq ∙ gather-or (is r 2) (is r 4) (g .n))
+      ∙ member-gather (λ i. is r 2 i || is r 4 i) (g .n) v h
+
+  pub needed-is : (p q s : ℕ) → p ≡ gather (is r 2) (g .n) → q ≡ gather (is r 4) (g .n) → s < 2 ^ 64
+      → ((b : ℕ) → member s b ≡ any (reach (bitOr p q) (g .before) b) (g .n)) → s ≡ gather (needed g r) 64
+  unfolding needed standsOn pre before reach
+  needed-is p q s ep eq hs h =
+      gather-is (needed g r) 64 s hs
+      (λ b l. h b ∙ any-ext (reach (bitOr p q) (g .before) b) (standsOn g r b) (g .n)
+      (λ v k. ap (λ (t : Bool). t && member (getD (g .before) v 0) b) (busy-at p q v ep eq k)))
+
+  pub ready-is : (p s : ℕ) → p ≡ gather (is r 2) (g .n) → s ≡ gather (readyIn p (g .before)) (g .n) → s ≡ gather (ready g r) (g .n)
+  unfolding readyIn ready held coded before
+  ready-is p s ep e = rw (ep) at e
+
+  -- rule 2, as one set
+  pub return-is : (x h w s : ℕ) → h ≡ gather (is r 2) (g .n) → w ≡ wayOf g (r .way) → s ≡ gather (needed g r) 64
+      → x ≡ first (member (without (without h w) s)) 64 → x ≡ first (toReturn g r) 64
+  unfolding toReturn held coded inWay
+  return-is x h w s eh ew es e =
+      e ∙ first-ext (member (without (without h w) s)) (toReturn g r) 64
+      (λ i l. member-without (without h w) s i l
+      ∙ ap₂ (λ (p q : Bool). p && not q) (member-without h w i l) (ap (λ (z : ℕ). member z i) es ∙ member-gather (needed g r) 64 i l)
+      ∙ and-assoc (member h i) (not (member w i)) (not (needed g r i))
+      ∙ ap₂ (λ (a b : ℕ). member a i && (not (member b i) && not (needed g r i))) eh ew)
+
+  -- rule 4, as one set
+  request-at : (i : ℕ) → (member (gather (is r 0) (g .n)) i && member (wayOf g (r .way)) i) && member (gather (ready g r) (g .n)) i ≡ toRequest g r i
+  unfolding toRequest free coded inWay
+  request-at i = elim (which (member (gather (is r 0) (g .n)) i)) [
+    | inl e ↦ and-assoc (member (gather (is r 0) (g .n)) i) (member (wayOf g (r .way)) i) (member (gather (ready g r) (g .n)) i)
+        ∙ ap (λ (t : Bool). member (gather (is r 0) (g .n)) i && (member (wayOf g (r .way)) i && t)) (member-gather (ready g r) (g .n) i (member-low (is r 0) (g .n) i e))
+    | inr e ↦ rw e
+  ]
+
+  pub request-is : (x f w s : ℕ) → f ≡ gather (is r 0) (g .n) → w ≡ wayOf g (r .way) → s ≡ gather (ready g r) (g .n)
+      → x ≡ first (member (bitAnd (bitAnd f w) s)) 64 → x ≡ first (toRequest g r) 64
+  request-is x f w s ef ew es e =
+      e ∙ first-ext (member (bitAnd (bitAnd f w) s)) (toRequest g r) 64
+      (λ i l. rw (ef, ew, es) (member-and (bitAnd (gather (is r 0) (g .n)) (wayOf g (r .way))) (gather (ready g r) (g .n)) i
+      ∙ ap (λ (t : Bool). t && member (gather (ready g r) (g .n)) i) (member-and (gather (is r 0) (g .n)) (wayOf g (r .way)) i)
+      ∙ request-at i))

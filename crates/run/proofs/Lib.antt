@@ -1,0 +1,6 @@
+pub mod Facts
+pub mod Cases
+pub mod SoundTest
+pub mod Codes
+pub mod Exits
+pub mod Bytes

@@ -1,0 +1,23 @@
+-- `run::Run::settle` meets its contract.
+-- Assumes nothing.
+use borrow.Author.Needs.{needs}
+use Rattle.bounded.proofs.Bools.{got}
+use Rattle.run.proofs.Exits.{settle-wait, settle-turn, settle-stay}
+use Rattle.run.proofs.Run.settle.Statement.{statement}
+use Rattle.run.proofs.Run.settle.Tie as tie
+
+returns : tie.Need-returns
+returns c = settle-wait _ _ _ (c .before .coded .ensures) (c .if1 .taken)
+
+returns-2 : tie.Need-returns-2
+returns-2 c =
+    let l = c .before .before .before in
+    settle-turn _ _ _ (l .before .before .before .coded .ensures) (l .before .before .if1 .left) (got (l .lost-in .ensures) (c .before .before .if2 .taken)) _ (c .first-live .ensures)
+
+returns-3 : tie.Need-returns-3
+returns-3 c =
+    let l = c .before in
+    settle-stay _ _ _ (l .before .before .before .coded .ensures) (l .before .before .if1 .left) (got (l .lost-in .ensures) (c .if2 .left))
+
+pub settle-spec : {M : Type 1} → statement M
+settle-spec = tie.close (tie.spec (search needs) returns (search needs) (search needs) (search needs) returns-2 returns-3)

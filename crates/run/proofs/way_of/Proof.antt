@@ -1,0 +1,17 @@
+-- `run::way_of` meets its contract.
+-- Assumes nothing.
+use borrow.Author.Needs.{needs}
+use Rattle.verdict.specs.Network.{wayOf}
+use Rattle.run.proofs.Codes.{way-entry}
+use Rattle.run.proofs.way_of.Statement.{statement}
+use Rattle.run.proofs.way_of.Tie as tie
+
+returns : tie.Need-returns
+unfolding wayOf
+returns c = search needs
+
+returns-2 : tie.Need-returns-2
+returns-2 c = way-entry (c .before .before .args .g) (c .before .before .args .w) (c .before .if1 .left)
+
+pub way-of-spec : {M : Type 1} → statement M
+way-of-spec = tie.close (tie.spec returns (search needs) (search needs) (search needs) returns-2)

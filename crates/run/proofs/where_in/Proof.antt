@@ -1,0 +1,16 @@
+-- `run::where_in` meets its contract.
+-- Assumes nothing.
+use mathlib.Core.Path.{sym, _∙_}
+use borrow.Author.Needs.{needs}
+use Rattle.run.proofs.Codes.{cond-on, cond-off}
+use Rattle.run.proofs.where_in.Statement.{statement}
+use Rattle.run.proofs.where_in.Tie as tie
+
+returns : tie.Need-returns
+returns c = cond-on _ _ _ (sym (c .before .has .ensures) ∙ c .if1 .taken)
+
+returns-2 : tie.Need-returns-2
+returns-2 c = cond-off _ _ _ (sym (c .before .has .ensures) ∙ c .if1 .left)
+
+pub where-in-spec : {M : Type 1} → statement M
+where-in-spec = tie.close (tie.spec (search needs) returns returns-2)
