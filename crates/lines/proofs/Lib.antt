@@ -6,3 +6,5 @@ pub mod KindsLaws
 pub mod LinksLaws
 pub mod WriteLaws
 pub mod Filled
+pub mod RoundTrip
+pub mod AllLines

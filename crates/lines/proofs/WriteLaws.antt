@@ -1,13 +1,12 @@
 -- Texts written piece by piece. `whole` is what the buffer is to hold in the end: what is left to write gives it, and each turn keeps that.
 -- Assumes nothing.
 use Prim.Native.Nat.{ℕ, zero, suc, _+_, _*_, _-_, _<_, _≤_}
-use mathlib.Core.Path.{_≡_, refl, sym, ap, _∙_}
+use mathlib.Core.Path.{_≡_, refl, sym, _∙_}
 use mathlib.Core.List.{List, [], _∷_, _++_}
 use native.Mathlib.Omega.{arith}
 use lib.ListN.{length, getD, length-append}
 use lib.Seq.{sets}
 use Rattle.decimal.specs.Decimal.{columns, columnsTo}
-use Rattle.decimal.proofs.Laws.{columns-length}
 use Rattle.decimal.proofs.Stores.{sets-append}
 use Rattle.lines.specs.Head.{headText}
 use Rattle.lines.specs.Booking.{bookingText}
@@ -53,7 +52,7 @@ module _ (d b1 b2 b3 b4 b5 : List ℕ) where
       let x : b2 ≡ sets d 0 (80 ∷ columns 4 n) = next d b1 b2 0 1 1 (80 ∷ []) (columns 4 n) refl refl e f in
       let y : b3 ≡ sets d 0 (80 ∷ (columns 4 n ++ columns 4 m)) = next d b2 b3 0 5 5 (80 ∷ columns 4 n) (columns 4 m) refl refl x g in
       let z : b4 ≡ sets d 0 (80 ∷ (columns 4 n ++ (columns 4 m ++ columns 4 a))) =
-          next d b3 b4 0 9 9 (80 ∷ (columns 4 n ++ columns 4 m)) (columns 4 a) refl refl y h in
+      next d b3 b4 0 9 9 (80 ∷ (columns 4 n ++ columns 4 m)) (columns 4 a) refl refl y h in
       next d b4 b5 0 13 13 (80 ∷ (columns 4 n ++ (columns 4 m ++ columns 4 a))) (10 ∷ []) refl refl z k
 
   pub booking-written : (at x k : ℕ) → b1 ≡ sets d at (66 ∷ []) → b2 ≡ sets b1 (at + 1) (columns 4 x) → b3 ≡ sets b2 (at + 5) (32 ∷ [])

@@ -1,6 +1,7 @@
 // The lines of a fixed width of a plan sheet: the head, the bookings, the links. Each is read from a part of the sheet, and written
 // into a lent buffer.
 use decimal::Field;
+use plan::Judged;
 ghost use mathlib.Core.Path.{_≡_};
 ghost use Prim.Native.Nat.{_+_, _*_, _≤_, _<_};
 ghost use lib.ListN.{length, drop};
@@ -32,14 +33,6 @@ pub enum Link {
     Pair(u8, u8),
     Malformed,
     OutOfSequence,
-}
-
-// What the lines read so far are: fine, or refused for their form, a count or a number, with the line.
-pub enum Judged {
-    Fine,
-    Form(usize),
-    Count(usize),
-    Sequence(usize),
 }
 
 // The kinds that the lines of the bookings give; up to the refused line, if one is.
@@ -148,15 +141,24 @@ pub fn read_kinds(s: &[u8], at: usize, n: usize) -> Kinds
                 kind[i] = k;
             }
             Booking::Malformed => {
-                return Kinds { judged: Judged::Form(i + 2), kind };
+                return Kinds {
+                    judged: Judged::Form(i + 2),
+                    kind,
+                };
             }
             Booking::OutOfSequence => {
-                return Kinds { judged: Judged::Sequence(i + 2), kind };
+                return Kinds {
+                    judged: Judged::Sequence(i + 2),
+                    kind,
+                };
             }
         }
         i += 1;
     }
-    Kinds { judged: Judged::Fine, kind }
+    Kinds {
+        judged: Judged::Fine,
+        kind,
+    }
 }
 
 // Reads the lines of m links, which start at at, in a plan of n bookings.
@@ -179,15 +181,27 @@ pub fn read_links(s: &[u8], at: usize, n: usize, m: usize) -> Links
                 pv = v as usize;
             }
             Link::Malformed => {
-                return Links { judged: Judged::Form(n + 2 + i), from, to };
+                return Links {
+                    judged: Judged::Form(n + 2 + i),
+                    from,
+                    to,
+                };
             }
             Link::OutOfSequence => {
-                return Links { judged: Judged::Sequence(n + 2 + i), from, to };
+                return Links {
+                    judged: Judged::Sequence(n + 2 + i),
+                    from,
+                    to,
+                };
             }
         }
         i += 1;
     }
-    Links { judged: Judged::Fine, from, to }
+    Links {
+        judged: Judged::Fine,
+        from,
+        to,
+    }
 }
 
 // Writes the head line at the front.
