@@ -11,7 +11,6 @@ use native.Mathlib.Omega.{arith}
 use lib.ListN.{length, getD, length-append}
 use lib.Seq.{sets}
 use Rattle.bounded.specs.Bounded.{one, sum, count, listed}
-use Rattle.bounded.proofs.Bools.{which}
 use Rattle.bounded.proofs.Sums.{count-sum, count-le}
 use Rattle.bounded.proofs.Lists.{listed-length}
 use Rattle.sets.specs.Sets.{member, sizeOf}
