@@ -53,14 +53,18 @@ pub fn read_body(s: &[u8], n: usize, m: usize, a: usize) -> Sheet
     if next != s.len() {
         return refused(Judged::Form(n + m + a + 2));
     }
+    let kind = k.kind;
+    let from = l.from;
+    let to = l.to;
+    let way = w.way;
     let plan = Plan {
         n,
         m,
         a,
-        kind: k.kind,
-        from: l.from,
-        to: l.to,
-        way: w.way,
+        kind,
+        from,
+        to,
+        way,
     };
     Sheet { judged: Judged::Fine, plan }
 }
