@@ -1,6 +1,6 @@
 -- What the reader of a sheet has in hand at each of its returns.
 -- Assumes nothing.
-use Prim.Native.Nat.{ℕ, _+_, _*_, _≤_}
+use Prim.Native.Nat.{ℕ, _+_, _*_}
 use mathlib.Core.Path.{_≡_, sym, _∙_}
 use mathlib.Core.List.{List}
 use mathlib.Core.Bool.{Bool, true, false, not, cond}
@@ -21,7 +21,7 @@ use Rattle.lines.specs.declared.Links.{Links}
 use Rattle.lines.proofs.RoundTrip.{head-accepted}
 use Rattle.ways.specs.Ways.{waysOf, noWays}
 use Rattle.ways.specs.declared.Ways.{Ways}
-use Rattle.sheet.specs.Sheet.{linksPlace, waysPlace, kindsIn, linksIn, waysIn, planOf, refusedOf, past, endOf, bodyOf, afterHead, sheetOf}
+use Rattle.sheet.specs.Sheet.{kindsIn, linksIn, waysIn, planOf, refusedOf, endOf, bodyOf, afterHead, sheetOf}
 use Rattle.sheet.specs.declared.Sheet.{Sheet}
 
 -- ---- the lines after the head: k, l and w are what the calls gave, b, c and d whether these lines are fine

@@ -66,7 +66,10 @@ pub fn read_body(s: &[u8], n: usize, m: usize, a: usize) -> Sheet
         to,
         way,
     };
-    Sheet { judged: Judged::Fine, plan }
+    Sheet {
+        judged: Judged::Fine,
+        plan,
+    }
 }
 
 // Reads a sheet, whatever its bytes are and however many.

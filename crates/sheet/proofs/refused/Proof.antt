@@ -5,8 +5,6 @@ use Rattle.ways.specs.Ways.{noWays}
 use Rattle.sheet.specs.Sheet.{refusedOf, noPlan}
 use Rattle.sheet.proofs.refused.Statement.{statement}
 use Rattle.sheet.proofs.refused.Tie as tie
-use Rattle.sheet.proofs.refused.Reads as reads
-use Rattle.sheet.proofs.refused.Lts as lts
 
 returns : tie.Need-returns
 unfolding refusedOf noPlan noKinds noLinks noWays
