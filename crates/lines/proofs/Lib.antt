@@ -4,7 +4,7 @@ pub mod BookingLaws
 pub mod LinkLaws
 pub mod KindsLaws
 pub mod LinksLaws
-pub mod WriteLaws
+pub mod Lengths
 pub mod Filled
 pub mod RoundTrip
 pub mod AllLines
