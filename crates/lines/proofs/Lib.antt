@@ -5,6 +5,5 @@ pub mod LinkLaws
 pub mod KindsLaws
 pub mod LinksLaws
 pub mod Lengths
-pub mod Filled
 pub mod RoundTrip
 pub mod AllLines
