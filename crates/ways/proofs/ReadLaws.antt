@@ -141,18 +141,9 @@ module _ (n at : ℕ) (s front : List ℕ) (f : Field) (p : front ≡ take 5 (dr
       no-end x = rw (by-count, g, ← t, not-f b q, fed, not-t d x)
 
       module _ (x : not d ≡ false) (h : Gathered) (y : h ≡ gatherOf n 0 0 k (drop (at + 5) s)) where
-        by-set : wayOf n (drop at s) ≡ asWay k h
+        pub by-set : wayOf n (drop at s) ≡ asWay k h
         unfolding membersOf
         by-set = rw (by-count, g, ← t, not-f b q, fed, not-f d x, drop-drop 5 at s, y)
-
-        pub the-members : (m : ℕ) → h ≡ G.Set m → Members k m ≡ wayOf n (drop at s)
-        the-members m i = rw (by-set, i)
-
-        pub no-form : h ≡ G.Malformed → Malformed ≡ wayOf n (drop at s)
-        no-form i = rw (by-set, i)
-
-        pub no-sequence : h ≡ G.OutOfSequence → OutOfSequence ≡ wayOf n (drop at s)
-        no-sequence i = rw (by-set, i)
 
 -- ---- a line that is accepted has at most n bookings
 

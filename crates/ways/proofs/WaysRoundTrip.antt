@@ -16,6 +16,8 @@ use Rattle.bounded.proofs.Bools.{clash}
 use Rattle.sets.specs.Sets.{sizeOf}
 use Rattle.plan.specs.Limits.{mostWays}
 use Rattle.plan.specs.declared.Judged.the-variants.{Fine, Form, Count, Sequence}
+use Rattle.plan.specs.declared.Plan.{Plan}
+use Rattle.plan.proofs.Valid.{Valid}
 use Rattle.plan.proofs.Filled.{filled}
 use Rattle.ways.specs.WayText.{wayText, waysText, sizeAt, waysLength}
 use Rattle.ways.specs.Way.{wayOf}
@@ -49,6 +51,9 @@ ways-length a ws =
 pub record Writable (n s : ℕ) : Type 0 where
   pub some : 1 ≤ sizeOf s
   pub small : s < 2 ^ n
+
+pub valid-writable : (p : Plan) → Valid p → (k : ℕ) → k < p .a → Writable (p .n) (getD (p .way) k 0)
+valid-writable p v k h = record { some = v .taken k h; small = v .sets k h }
 
 pub ways-read : (n first a i at : ℕ) (ws rest acc : List ℕ) → n ≤ 64 → ((k : ℕ) → i ≤ k → k < i + a → Writable n (getD ws k 0))
     → waysOf n first a i at (waysText a i ws ++ rest) acc ≡ record { judged = Fine; next = at + length (waysText a i ws); way = filled a i ws acc }

@@ -1,7 +1,10 @@
 use denote.Ref.{now}
 use Prim.Native.Nat.{_≤_}
 use native.Mathlib.Omega.{arith}
-use Rattle.ways.proofs.ReadLaws.{at-most, no-count, count-out, no-end, the-members, no-form, no-sequence}
+use Rattle.ways.proofs.ReadLaws.{at-most, no-count, count-out, no-end, by-set}
+use mathlib.Core.Path.{_≡_, sym, ap, _∙_}
+use lib.ListN.{drop}
+use Rattle.ways.specs.Way.{asWay, wayOf}
 use borrow.Author.Needs.{needs}
 use Rattle.ways.proofs.read_way.Statement.{statement}
 use Rattle.ways.proofs.read_way.Tie as tie
@@ -28,22 +31,29 @@ returns-3 c = search no-end
 gather-requires : tie.Need-gather-requires
 gather-requires c κs = omega (arith, few (c .before .before))
 
-returns-4 : tie.Need-returns-4
-returns-4 c =
-    let g = c .before .before .before in
-    let f = g .before .before in
+-- past the tests, what was gathered is the line
+line : (c : tie.After-gather) → (
+    let k = c .before .before .before .before .before .before in
+    let a = k .before .before .before .before .before .args in
+    asWay (k .k .given .0 .0) (c .gather .result) ≡ wayOf (a .n) (drop (a .at) (now (a .s))))
+line c =
+    let f = c .before .before in
     let w = f .before .before in
     let k = w .before .before in
     let r = k .before .before in
     let a = r .before .before .before .args in
-    the-members (a .n) (a .at) (now (a .s)) _ _ (r .before .part .ensures) (r .read-count .ensures) _ (k .k .given .1) _ (w .is-within .ensures)
-    (f .before .if1 .left) _ (f .is-fed .ensures) (g .before .if2 .left) _ (g .gather .ensures) _ (c .before .x .given .1)
+    sym
+    (by-set (a .n) (a .at) (now (a .s)) _ _ (r .before .part .ensures) (r .read-count .ensures) _ (k .k .given .1) _ (w .is-within .ensures)
+    (f .before .if1 .left) _ (f .is-fed .ensures) (c .before .if2 .left) _ (c .gather .ensures))
+
+returns-4 : tie.Need-returns-4
+returns-4 c = ap (asWay _) (sym (c .before .x .given .1)) ∙ line (c .before .before .before)
 
 returns-5 : tie.Need-returns-5
-returns-5 c = search no-form
+returns-5 c = ap (asWay _) (sym (c .enum-told2 .given .1)) ∙ line (c .before .before)
 
 returns-6 : tie.Need-returns-6
-returns-6 c = search no-sequence
+returns-6 c = ap (asWay _) (sym (c .enum-told3 .given .1)) ∙ line (c .before .before)
 
 pub read-way-spec : {M : Type 1} → statement M
 read-way-spec =

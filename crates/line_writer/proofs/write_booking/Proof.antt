@@ -1,7 +1,7 @@
-use Rattle.lines.proofs.WriteLaws.{booking-written}
+use Rattle.line_writer.proofs.WriteLaws.{booking-written}
 use borrow.Author.Needs.{needs}
-use Rattle.lines.proofs.write_booking.Statement.{statement}
-use Rattle.lines.proofs.write_booking.Tie as tie
+use Rattle.line_writer.proofs.write_booking.Statement.{statement}
+use Rattle.line_writer.proofs.write_booking.Tie as tie
 
 returns : tie.Need-returns
 returns c =

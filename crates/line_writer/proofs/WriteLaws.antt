@@ -1,42 +1,19 @@
 -- Texts written piece by piece. `whole` is what the buffer is to hold in the end: what is left to write gives it, and each turn keeps that.
 -- Assumes nothing.
-use Prim.Native.Nat.{ℕ, zero, suc, _+_, _*_, _-_, _<_, _≤_}
+use Prim.Native.Nat.{ℕ, suc, _+_, _*_, _-_, _<_, _≤_}
 use mathlib.Core.Path.{_≡_, refl, sym, _∙_}
 use mathlib.Core.List.{List, [], _∷_, _++_}
 use native.Mathlib.Omega.{arith}
-use lib.ListN.{length, getD, length-append}
+use lib.ListN.{length, getD}
 use lib.Seq.{sets}
 use Rattle.decimal.specs.Decimal.{columns, columnsTo}
 use Rattle.decimal.proofs.Stores.{sets-append}
 use Rattle.lines.specs.Head.{headText}
 use Rattle.lines.specs.Booking.{bookingText}
 use Rattle.lines.specs.Link.{linkText}
 use Rattle.lines.specs.Kinds.{kindsText}
 use Rattle.lines.specs.Links.{linksText}
-
--- ---- lengths
-
-pub head-length : (n m a : ℕ) → length (headText n m a) ≡ 14
-unfolding headText columns columnsTo
-head-length n m a = refl
-
-pub booking-length : (x k : ℕ) → length (bookingText x k) ≡ 8
-unfolding bookingText columns columnsTo
-booking-length x k = refl
-
-pub link-length : (u v : ℕ) → length (linkText u v) ≡ 10
-unfolding linkText columns columnsTo
-link-length u v = refl
-
-pub kinds-length : (n i : ℕ) (ks : List ℕ) → length (kindsText n i ks) ≡ 8 * n
-unfolding kindsText
-kinds-length zero i ks = refl
-kinds-length (suc n) i ks = rw (length-append, booking-length, kinds-length n (i + 1) ks) (omega arith)
-
-pub links-length : (m i : ℕ) (us vs : List ℕ) → length (linksText m i us vs) ≡ 10 * m
-unfolding linksText
-links-length zero i us vs = refl
-links-length (suc m) i us vs = rw (length-append, link-length, links-length m (i + 1) us vs) (omega arith)
+use Rattle.lines.proofs.Lengths.{booking-length, link-length}
 
 -- ---- a line
 

@@ -1,7 +1,7 @@
-use Rattle.lines.proofs.WriteLaws.{head-written}
+use Rattle.line_writer.proofs.WriteLaws.{head-written}
 use borrow.Author.Needs.{needs}
-use Rattle.lines.proofs.write_head.Statement.{statement}
-use Rattle.lines.proofs.write_head.Tie as tie
+use Rattle.line_writer.proofs.write_head.Statement.{statement}
+use Rattle.line_writer.proofs.write_head.Tie as tie
 
 returns : tie.Need-returns
 returns c =

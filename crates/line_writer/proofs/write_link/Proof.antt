@@ -1,7 +1,7 @@
-use Rattle.lines.proofs.WriteLaws.{link-written}
+use Rattle.line_writer.proofs.WriteLaws.{link-written}
 use borrow.Author.Needs.{needs}
-use Rattle.lines.proofs.write_link.Statement.{statement}
-use Rattle.lines.proofs.write_link.Tie as tie
+use Rattle.line_writer.proofs.write_link.Statement.{statement}
+use Rattle.line_writer.proofs.write_link.Tie as tie
 
 returns : tie.Need-returns
 returns c =
