@@ -226,7 +226,8 @@ impl Run {
                 run: self.put(y, 1),
             };
         }
-        if self.coded(g.n, 1) != 0 {
+        let deciding = self.coded(g.n, 1);
+        if deciding != 0 {
             return self.still(Order::Wait);
         }
         if self.way == 0 {
