@@ -73,11 +73,11 @@ module _ (g : Network) (r : Run) where
 
   module _ (s : ℕ) (es : s ≡ gather (is r 4) (g .n)) where
     pub return-wait : s ≢ 0 → still Wait r ≡ rule3
-    unfolding rule3 returning coded
+    unfolding rule3 coded
     return-wait d = rw (some-t s (gather (is r 4) (g .n)) es d)
 
     pub past-3 : s ≡ 0 → rule4 ≡ rule3
-    unfolding rule3 returning coded
+    unfolding rule3 coded
     past-3 z = rw (some-f s (gather (is r 4) (g .n)) es z)
 
   module _ (y : ℕ) (ey : y ≡ first (toRequest g r) 64) where
@@ -91,23 +91,23 @@ module _ (g : Network) (r : Run) where
 
   module _ (s : ℕ) (es : s ≡ gather (is r 1) (g .n)) where
     pub request-wait : s ≢ 0 → still Wait r ≡ rule5
-    unfolding rule5 requested coded
+    unfolding rule5 coded
     request-wait d = rw (some-t s (gather (is r 1) (g .n)) es d)
 
     pub past-5 : s ≡ 0 → rule6 ≡ rule5
-    unfolding rule5 requested coded
+    unfolding rule5 coded
     past-5 z = rw (some-f s (gather (is r 1) (g .n)) es z)
 
     pub settle-wait : s ≢ 0 → r ≡ settle g r
-    unfolding settle toSwitch requested coded
+    unfolding settle toSwitch coded
     settle-wait d = rw (some-t s (gather (is r 1) (g .n)) es d)
 
     pub settle-turn : s ≡ 0 → lostIn g r (r .way) ≡ true → (w : ℕ) → w ≡ firstLive g r → turn r w ≡ settle g r
-    unfolding settle toSwitch requested coded
+    unfolding settle toSwitch coded
     settle-turn z l w p = rw (some-f s (gather (is r 1) (g .n)) es z, l, p)
 
     pub settle-stay : s ≡ 0 → lostIn g r (r .way) ≡ false → r ≡ settle g r
-    unfolding settle toSwitch requested coded
+    unfolding settle toSwitch coded
     settle-stay z l = rw (some-f s (gather (is r 1) (g .n)) es z, l)
 
 -- the rules from one on give the next order

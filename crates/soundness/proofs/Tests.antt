@@ -95,7 +95,7 @@ module _ (g : Network) (r : Run) (h : g .n ≤ 64) where
     quiet-none z = rw (leaving-set a w m c ea ew em ec, eq-eqb (bitOr m c) 0 z)
 
     pub quiet-some : bitOr m c ≢ 0 → (s : ℕ) → s ≡ gather (is r 1) (g .n) → eqb s 0 ≡ quiet g r
-    unfolding quiet some requested coded
+    unfolding quiet some coded
     quiet-some d s e = rw (leaving-set a w m c ea ew em ec, ne-eqb (bitOr m c) 0 d, ← e) (not-not (eqb s 0))
 
   -- lost bookings of the current way
@@ -108,13 +108,13 @@ module _ (g : Network) (r : Run) (h : g .n ≤ 64) where
 
   module _ (a w s : ℕ) (ea : a ≡ gather (is r 3) (g .n)) (ew : w ≡ wayOf g (r .way)) (es : s ≡ gather (is r 1) (g .n)) where
     pub pending-none : s ≡ 0 → subsetOf (bitAnd a w) 0 ≡ lostPending g r
-    unfolding lostPending pending some requested coded
+    unfolding lostPending pending some coded
     pending-none z =
         gone-is (λ i. ready g r i && not (eqb (gather (is r 1) (g .n)) 0)) a w 0 ea ew
         (λ i l. member-zero i ∙ sym (and-no-r (ready g r i) (not (eqb (gather (is r 1) (g .n)) 0)) (ap not (eq-eqb (gather (is r 1) (g .n)) 0 (sym es ∙ z)))))
 
     pub pending-some : s ≢ 0 → (t : ℕ) → t ≡ gather (ready g r) (g .n) → subsetOf (bitAnd a w) t ≡ lostPending g r
-    unfolding lostPending pending some requested coded
+    unfolding lostPending pending some coded
     pending-some d t et =
         gone-is (λ i. ready g r i && not (eqb (gather (is r 1) (g .n)) 0)) a w t ea ew
         (λ i l. ap (λ (x : ℕ). member x i) et ∙ member-gather (ready g r) (g .n) i l

@@ -10,7 +10,7 @@ use Rattle.soundness.proofs.lost_exposed.Statement.{statement}
 use Rattle.soundness.proofs.lost_exposed.Tie as tie
 
 returns : tie.Need-returns
-unfolding lostExposed lost coded
+unfolding lostExposed coded
 returns c = c .subset .ensures ∙ ap (λ (s : ℕ). subsetOf s (c .before .before .args .g .exposed)) (c .before .coded .ensures)
 
 pub lost-exposed-spec : {M : Type 1} → statement M

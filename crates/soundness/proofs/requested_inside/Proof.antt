@@ -9,7 +9,7 @@ use Rattle.soundness.proofs.requested_inside.Statement.{statement}
 use Rattle.soundness.proofs.requested_inside.Tie as tie
 
 returns : tie.Need-returns
-unfolding requestedInside requested coded
+unfolding requestedInside coded
 returns c = c .subset .ensures ∙ ap₂ subsetOf (c .before .before .before .coded .ensures) (c .before .way-of .ensures)
 
 pub requested-inside-spec : {M : Type 1} → statement M
