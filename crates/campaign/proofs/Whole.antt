@@ -1,22 +1,21 @@
 -- The whole campaign: for every sheet that passes and every list of calls, on bytes and in 32 bits.
 -- Assumes nothing.
 use mathlib.Core.Path.{_≡_, refl, sym, ap, _∙_}
-use mathlib.Core.Bool.{Bool, true, false, _&&_, cond}
+use mathlib.Core.Bool.{true}
 use mathlib.Core.List.{List, [], _∷_}
 use Prim.Native.Nat.{ℕ}
-use lib.Dec.{eqb}
 use lib.ListN.{length}
 use borrow.Author.Tests.{eqb-true, eq-eqb}
-use Rattle.bounded.proofs.Bools.{and-l, and-r, _&_}
+use Rattle.bounded.proofs.Bools.{and-l, and-r}
 use Rattle.plan.specs.Judging.{isFine}
 use Rattle.sheet.specs.Sheet.{sheetOf}
 use Rattle.sheet.proofs.Accepted.{sheet-valid}
 use Rattle.verdict.specs.Check.{check, verdictNumber}
-use Rattle.verdict.specs.FromPlan.{networkOf}
 use Rattle.run.specs.State.{start}
 use Rattle.run.specs.Bytes.{bytesOf}
 use Rattle.guarantee.specs.Machine.{Asked, nextOrder}
 use Rattle.guarantee.specs.Calls.{callBits, callBytes, answers, states, left, answersTo, orderAfter}
+use Rattle.guarantee.specs.Counted.{ends}
 use Rattle.guarantee.specs.Guarantee.{Guarantee}
 use Rattle.guarantee.proofs.Plans.{plan-campaign}
 use Rattle.campaign.specs.Calls.{networkIn, passes, sheetPasses, startLeaves, askedCall, askedLeaves}
@@ -70,5 +69,5 @@ module _ (s : List ℕ) (e : sheetPasses s ≡ true) where
         bits = a ∙ g .bits;
         bytes = rw (started bs h) (states-is (bytesOf start) qs ∙ g .bytes);
         demand-3 = rw (a, x) (g .demand-3);
-        semi-atomic = λ z. rw a (g .semi-atomic (sym x ∙ z));
+        semi-atomic = λ z. rw a (g .semi-atomic (ap ends (sym x) ∙ z));
       }

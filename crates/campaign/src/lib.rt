@@ -62,7 +62,14 @@ fn check_bits(v: Verdict) -> u32
 fn is_pass(v: Verdict) -> bool
     ensures { λ r. ⌜ r ≡ passes v ⌝ }
 {
-    if let Verdict::Pass = v { true } else { false }
+    match v {
+        Verdict::Pass => true,
+        Verdict::Circular(_) => false,
+        Verdict::Unclosed(_) => false,
+        Verdict::Unused(_) => false,
+        Verdict::Repeated(_) => false,
+        Verdict::Stranding(_, _) => false,
+    }
 }
 
 fn order_bits(o: Order) -> u32
