@@ -1,14 +1,14 @@
 -- Both round trips. What the writer leaves for a record is read back as that record (`written-read`); an accepted sheet, read and
 -- written, is the same bytes (`read-written`). And no sheet is longer than 9,838 bytes.
 -- Assumes nothing.
-use Prim.Native.Nat.{ℕ, zero, suc, _+_, _*_, _^_, _≤_, _<_}
+use Prim.Native.Nat.{ℕ, zero, suc, _+_, _*_, _≤_, _<_}
 use mathlib.Core.Path.{_≡_, refl, sym, ap, _∙_}
 use mathlib.Core.Logic.{inl, inr}
 use mathlib.Core.List.{List, [], _++_, append-nil}
-use mathlib.Core.Bool.{Bool, true, false, cond, _&&_}
+use mathlib.Core.Bool.{Bool, true, false, cond}
 use native.Mathlib.Omega.{arith}
 use lib.ListN.{length, getD, take, drop, set, replicate, length-replicate, getD-replicate}
-use lib.Dec.{eqb, leb}
+use lib.Dec.{leb}
 use lib.Seq.{take-at, drop-at, drop-drop, getD-set-other}
 use borrow.Author.Tests.{eq-eqb, le-leb}
 use Rattle.bounded.specs.Bounded.{all}
@@ -17,14 +17,14 @@ use Rattle.bounded.proofs.Tests.{all-e}
 use Rattle.bounded.proofs.Lists.{getD-past}
 use Rattle.plan.specs.Judging.{isFine}
 use Rattle.plan.specs.Limits.{mostBookings, mostLinks, mostWays}
-use Rattle.plan.specs.Record.{kindAt, linkAt, withinAt, entriesFit, recordOf}
+use Rattle.plan.specs.Record.{kindAt, linkAt, entriesFit, recordOf}
 use Rattle.plan.specs.declared.Plan.{Plan}
 use Rattle.plan.specs.declared.Judged.the-variants.{Fine}
 use Rattle.plan.specs.declared.Judgement.{Judgement}
 use Rattle.plan.specs.declared.Judgement.the-variants as R
 use Rattle.plan.proofs.LimitLaws.{Limited, limited-i}
 use Rattle.plan.proofs.Filled.{filled, filled-at}
-use Rattle.plan.proofs.Valid.{Valid, valid, fine-entries, size-le}
+use Rattle.plan.proofs.Valid.{valid, fine-entries}
 use Rattle.lines.specs.Head.{headText, headOf}
 use Rattle.lines.specs.Kinds.{kindsText, noKinds}
 use Rattle.lines.specs.Links.{linksText, noLinks}
@@ -34,15 +34,13 @@ use Rattle.lines.proofs.RoundTrip.{head-read}
 use Rattle.lines.proofs.AllLines.{kinds-read, links-read}
 use Rattle.ways.specs.WayText.{waysText, waysLength}
 use Rattle.ways.specs.Ways.{noWays}
-use Rattle.ways.proofs.TextLaws.{length-most}
-use Rattle.ways.proofs.WaysRoundTrip.{Writable, all-read}
+use Rattle.ways.proofs.WaysRoundTrip.{all-read}
 use Rattle.sheet.specs.Sheet.{linksPlace, waysPlace, kindsIn, linksIn, waysIn, planOf, endOf, bodyOf, sheetOf}
 use Rattle.sheet.specs.Text.{sheetText, sheetLength}
 use Rattle.sheet.specs.declared.Sheet.{Sheet}
 use Rattle.sheet.proofs.Accepted.{sheet-fine, sheet-accepted}
-use Rattle.writer.specs.Written.{fineAnswer, answerBy, writtenOf, leftBy, leaves}
+use Rattle.writer.specs.Written.{fineAnswer, answerBy, writtenOf, leaves}
 use Rattle.writer.specs.ReadBack.{Copied, ReadBack}
-use Rattle.writer.specs.declared.Written.{Written}
 use Rattle.writer.specs.declared.Written.the-variants.{Length, Count, Sequence, Short}
 use Rattle.writer.proofs.TextLaws.{sheet-length, ways-most}
 

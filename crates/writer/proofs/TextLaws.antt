@@ -3,10 +3,9 @@
 use Prim.Native.Nat.{ℕ, _+_, _*_, _≤_, _<_}
 use mathlib.Core.Path.{_≡_, sym, _∙_}
 use mathlib.Core.List.{List, _++_}
-use mathlib.Core.Bool.{true, false}
 use native.Mathlib.Omega.{arith}
 use native.Mathlib.Nat.{zero-add}
-use lib.ListN.{length, getD, drop, length-append}
+use lib.ListN.{length, getD, length-append}
 use lib.Seq.{sets, sets-eq}
 use borrow.Author.Tests.{le-leb, lt-leb}
 use Rattle.bounded.proofs.Sums.{count-le}
@@ -26,7 +25,7 @@ use Rattle.ways.specs.WayText.{waysText, waysLength}
 use Rattle.ways.proofs.TextLaws.{length-most}
 use Rattle.ways.proofs.WaysRoundTrip.{ways-length}
 use Rattle.sheet.specs.Text.{sheetText, sheetLength}
-use Rattle.writer.specs.Written.{fineAnswer, answerBy, writtenOf, leftBy, leaves}
+use Rattle.writer.specs.Written.{fineAnswer, writtenOf, leftBy, leaves}
 use Rattle.writer.specs.declared.Written.{Written}
 use Rattle.writer.specs.declared.Written.the-variants.{Length, Count, Sequence, Short}
 
