@@ -26,7 +26,7 @@ pub fn members(mut set: u64) -> impl Iterator<Item = usize> {
     })
 }
 
-/// Warshall, a whole set at a time.
+/// Warshall, a whole set at a time; without a branch, for the bits are hard to foretell.
 fn close(before: &mut [u64; 64], bookings: usize) {
     for middle in 0..bookings {
         let earlier = before[middle];
@@ -34,9 +34,8 @@ fn close(before: &mut [u64; 64], bookings: usize) {
             continue;
         }
         for set in &mut before[..bookings] {
-            if *set >> middle & 1 != 0 {
-                *set |= earlier;
-            }
+            let joined = (*set >> middle & 1).wrapping_neg();
+            *set |= earlier & joined;
         }
     }
 }

@@ -29,7 +29,5 @@ pub fn next_order(sheet: &[u8], state: &mut [u8]) -> u32 {
 }
 
 pub fn reply(sheet: &[u8], state: &mut [u8], letter: u8, booking: u32) -> u32 {
-    unsafe {
-        campaign_reply(sheet.as_ptr(), sheet.len(), state.as_mut_ptr(), state.len(), letter, booking)
-    }
+    unsafe { campaign_reply(sheet.as_ptr(), sheet.len(), state.as_mut_ptr(), state.len(), letter, booking) }
 }

@@ -13,39 +13,51 @@ mod run;
 mod sheets;
 
 use campaign::{record, Campaign, State};
-use measure::{best, stack};
+use measure::{measure, stack, Pass, Times};
 use sheets::Sheet;
 use std::hint::black_box;
 
 const REFUSING: usize = 3;
+const MEASURED: usize = 16;
 
-/// A recorded campaign that goes on for long: the longest of a few.
+/// Calls spread evenly over a recorded campaign that goes on for long, the longest of a few.
 fn long_campaign(sheet: &[u8]) -> Campaign {
     let recorded = (0..12).map(|seed| record(sheet, seed, REFUSING));
-    recorded.max_by_key(|campaign| campaign.orders.len()).unwrap()
+    let longest = recorded.max_by_key(|campaign| campaign.orders.len()).unwrap();
+    Campaign { orders: spread(&longest.orders), replies: spread(&longest.replies) }
 }
 
-fn per_call(nanoseconds: [f64; 2], calls: usize) -> [f64; 2] {
-    nanoseconds.map(|total| total / calls as f64)
+fn spread<T: Copy>(all: &[T]) -> Vec<T> {
+    let few = all.len().min(MEASURED);
+    (0..few).map(|i| all[i * all.len() / few]).collect()
 }
 
-fn time_check(sheet: &[u8]) -> [f64; 2] {
-    best([
-        &mut || _ = black_box(library::check(black_box(sheet))),
-        &mut || _ = black_box(calls::check(black_box(sheet))),
-    ])
+/// Library, Rust version, and the Rust version's reader alone.
+type Three = Times<3>;
+const LIBRARY: usize = 0;
+const RUST: usize = 1;
+const READER: usize = 2;
+
+fn three(sheet: &[u8], calls: usize, library: &mut dyn FnMut(), rust: &mut dyn FnMut()) -> Three {
+    let mut reader = || _ = black_box(calls::read_only(black_box(sheet)));
+    measure([Pass { calls, run: library }, Pass { calls, run: rust }, Pass { calls: 1, run: &mut reader }])
 }
 
-fn time_start(sheet: &[u8]) -> [f64; 2] {
-    let (mut here, mut there): (State, State) = ([0; 65], [0; 65]);
-    best([
-        &mut || _ = black_box(library::start(black_box(sheet), &mut here)),
-        &mut || _ = black_box(calls::start(black_box(sheet), &mut there)),
-    ])
+fn time_check(sheet: &[u8]) -> Three {
+    let pass = |call: fn(&[u8]) -> u32| move || _ = black_box(call(black_box(sheet)));
+    three(sheet, 1, &mut pass(library::check), &mut pass(calls::check))
+}
+
+fn time_start(sheet: &[u8]) -> Three {
+    let pass = |call: fn(&[u8], &mut [u8]) -> u32| {
+        let mut state: State = [0; 65];
+        move || _ = black_box(call(black_box(sheet), &mut state))
+    };
+    three(sheet, 1, &mut pass(library::start), &mut pass(calls::start))
 }
 
 /// Each call gets a fresh copy of its state; copying 65 bytes is in both times.
-fn time_orders(sheet: &[u8], states: &[State]) -> [f64; 2] {
+fn time_orders(sheet: &[u8], states: &[State]) -> Three {
     let pass = |call: fn(&[u8], &mut [u8]) -> u32| {
         move || {
             for state in states {
@@ -54,10 +66,10 @@ fn time_orders(sheet: &[u8], states: &[State]) -> [f64; 2] {
             }
         }
     };
-    per_call(best([&mut pass(library::next_order), &mut pass(calls::next_order)]), states.len())
+    three(sheet, states.len(), &mut pass(library::next_order), &mut pass(calls::next_order))
 }
 
-fn time_replies(sheet: &[u8], replies: &[(State, u8, u32)]) -> [f64; 2] {
+fn time_replies(sheet: &[u8], replies: &[(State, u8, u32)]) -> Three {
     let pass = |call: fn(&[u8], &mut [u8], u8, u32) -> u32| {
         move || {
             for (state, letter, booking) in replies {
@@ -66,50 +78,36 @@ fn time_replies(sheet: &[u8], replies: &[(State, u8, u32)]) -> [f64; 2] {
             }
         }
     };
-    per_call(best([&mut pass(library::reply), &mut pass(calls::reply)]), replies.len())
+    three(sheet, replies.len(), &mut pass(library::reply), &mut pass(calls::reply))
 }
 
-fn time_reader(sheet: &[u8]) -> f64 {
-    best([&mut || _ = black_box(calls::read_only(black_box(sheet)))])[0]
-}
-
-fn row(sheet: &str, call: &str, time: [f64; 2], reader: f64) {
-    let [here, there] = time;
+fn print_call(sheet: &Sheet, call: &str, times: Three) {
     println!(
-        "| {sheet} | {call} | {here:.0} | {there:.0} | {:.2} | {:.2} |",
-        here / there,
-        here / reader
+        "| {} | {call} | {:.0} | {:.0} | {:.2} | {:.0} | {:.2} |",
+        sheet.name,
+        times.best(LIBRARY),
+        times.best(RUST),
+        times.ratio(LIBRARY, RUST),
+        times.best(READER),
+        times.ratio(LIBRARY, READER)
     );
 }
 
 fn print_calls(sheets: &[Sheet]) {
     println!("## Time of a call\n");
-    println!("In nanoseconds; numbers after a sheet: bookings, links, ways.\n");
-    println!("| sheet | call | library | Rust | ratio | library / Rust reader alone |");
-    println!("|---|---|--:|--:|--:|--:|");
+    println!("In nanoseconds; numbers after a sheet: bookings, links, ways. The reader is the Rust version's alone.\n");
+    println!("| sheet | call | library | Rust | library / Rust | reader | library / reader |");
+    println!("|---|---|--:|--:|--:|--:|--:|");
     for sheet in sheets {
         let bytes = &sheet.bytes;
         let campaign = long_campaign(bytes);
-        let reader = time_reader(bytes);
-        row(&sheet.name, "check", time_check(bytes), reader);
-        row(&sheet.name, "start", time_start(bytes), reader);
-        row(&sheet.name, "next order", time_orders(bytes, &campaign.orders), reader);
-        row(&sheet.name, "reply", time_replies(bytes, &campaign.replies), reader);
+        print_call(sheet, "check", time_check(bytes));
+        print_call(sheet, "start", time_start(bytes));
+        print_call(sheet, "next order", time_orders(bytes, &campaign.orders));
+        print_call(sheet, "reply", time_replies(bytes, &campaign.replies));
     }
     let longest = sheets::longest_text();
-    row(&longest.name, "check", time_check(&longest.bytes), time_reader(&longest.bytes));
-    println!();
-}
-
-fn print_readers(sheets: &[Sheet]) {
-    println!("## The Rust reader alone\n");
-    println!("| sheet | bytes | ns | ns per byte |");
-    println!("|---|--:|--:|--:|");
-    for sheet in sheets {
-        let time = time_reader(&sheet.bytes);
-        let bytes = sheet.bytes.len();
-        println!("| {} | {bytes} | {time:.0} | {:.2} |", sheet.name, time / bytes as f64);
-    }
+    print_call(&longest, "check", time_check(&longest.bytes));
     println!();
 }
 
@@ -118,14 +116,12 @@ fn print_growth(title: &str, series: &[Sheet]) {
     println!("| bookings, links, ways | bytes | check: library | Rust | ratio | next order: library | Rust | ratio |");
     println!("|---|--:|--:|--:|--:|--:|--:|--:|");
     for Sheet { name, bytes } in series {
-        let [here, there] = time_check(bytes);
-        let [next_here, next_there] = time_orders(bytes, &long_campaign(bytes).orders);
-        println!(
-            "| {name} | {} | {here:.0} | {there:.0} | {:.2} | {next_here:.0} | {next_there:.0} | {:.2} |",
-            bytes.len(),
-            here / there,
-            next_here / next_there
-        );
+        print!("| {name} | {} |", bytes.len());
+        for times in [time_check(bytes), time_orders(bytes, &long_campaign(bytes).orders)] {
+            let (here, there) = (times.best(LIBRARY), times.best(RUST));
+            print!(" {here:.0} | {there:.0} | {:.2} |", times.ratio(LIBRARY, RUST));
+        }
+        println!();
     }
     println!();
 }
@@ -133,7 +129,11 @@ fn print_growth(title: &str, series: &[Sheet]) {
 type Call<'a> = Box<dyn FnMut() + Send + 'a>;
 
 /// Each call of both versions on this sheet, as closures: (name, library, Rust).
-fn calls_on<'a>(sheet: &'a [u8], state: State, reply: (State, u8, u32)) -> Vec<(&'static str, Call<'a>, Call<'a>)> {
+fn calls_on<'a>(
+    sheet: &'a [u8],
+    state: State,
+    reply: (State, u8, u32),
+) -> Vec<(&'static str, Call<'a>, Call<'a>)> {
     let on = |call: fn(&[u8], &mut [u8]) -> u32| -> Call<'a> {
         Box::new(move || {
             let mut state = state;
@@ -188,10 +188,11 @@ fn main() {
     }
     println!("# The library and a Rust version on bit sets\n");
     println!("Both were given the same calls first, {compared} of them, and answered alike.");
-    println!("Each time is the best of several rounds on this machine; next order and reply are means over");
-    println!("all calls of one campaign, each on a copy of its state.\n");
+    println!("Each time is the best of many short rounds, each ratio the median of the rounds' ratios; next order and");
+    println!(
+        "reply are means over up to {MEASURED} calls spread over a campaign, each on a copy of its state.\n"
+    );
     print_calls(&sheets);
-    print_readers(&sheets);
     println!("## How the time grows\n");
     print_growth("With bookings", &by_bookings);
     print_growth("With links", &by_links);

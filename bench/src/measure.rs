@@ -2,36 +2,63 @@
 
 use std::time::{Duration, Instant};
 
-const ROUNDS: usize = 15;
-const ROUND: Duration = Duration::from_millis(4);
+const MOST_ROUNDS: usize = 200;
+const FEWEST_ROUNDS: usize = 5;
+// Short rounds: some of them then pass undisturbed on a busy machine.
+const ROUND: Duration = Duration::from_micros(500);
+const TOGETHER: Duration = Duration::from_millis(300);
 
-/// How often to run something so that one round lasts long enough to be measured.
-fn repeats(pass: &mut dyn FnMut()) -> u32 {
-    let begun = Instant::now();
-    pass();
-    let once = begun.elapsed().max(Duration::from_nanos(20));
-    (ROUND.as_nanos() / once.as_nanos()).clamp(1, 1_000_000) as u32
+/// Something to measure: one pass over it, and how many calls a pass makes.
+pub struct Pass<'a> {
+    pub calls: usize,
+    pub run: &'a mut dyn FnMut(),
 }
 
-fn round(pass: &mut dyn FnMut(), times: u32) -> f64 {
+/// How often to run a pass so that one round lasts long enough to be measured.
+fn repeats(pass: &mut Pass) -> u32 {
+    (pass.run)();
+    let begun = Instant::now();
+    (pass.run)();
+    let once = begun.elapsed().max(Duration::from_nanos(20));
+    (ROUND.as_nanos() / once.as_nanos()).clamp(1, 100_000) as u32
+}
+
+fn round(pass: &mut Pass, times: u32) -> f64 {
     let begun = Instant::now();
     for _ in 0..times {
-        pass();
+        (pass.run)();
     }
-    begun.elapsed().as_nanos() as f64 / f64::from(times)
+    begun.elapsed().as_nanos() as f64 / f64::from(times) / pass.calls as f64
 }
 
-/// Nanoseconds per pass of each: the best of several rounds taken in turn, so that what
-/// else runs on the machine disturbs both alike.
-pub fn best<const N: usize>(mut passes: [&mut dyn FnMut(); N]) -> [f64; N] {
-    let times: Vec<u32> = passes.iter_mut().map(|pass| repeats(pass)).collect();
-    let mut best = [f64::INFINITY; N];
-    for _ in 0..ROUNDS {
-        for (i, pass) in passes.iter_mut().enumerate() {
-            best[i] = best[i].min(round(pass, times[i]));
-        }
+/// Nanoseconds per call of each pass, in each round.
+pub struct Times<const N: usize> {
+    rounds: Vec<[f64; N]>,
+}
+
+impl<const N: usize> Times<N> {
+    pub fn best(&self, pass: usize) -> f64 {
+        self.rounds.iter().map(|round| round[pass]).fold(f64::INFINITY, f64::min)
     }
-    best
+
+    /// The median of the rounds' ratios: what else runs disturbs both sides of a round alike.
+    pub fn ratio(&self, pass: usize, to: usize) -> f64 {
+        let mut ratios: Vec<f64> = self.rounds.iter().map(|round| round[pass] / round[to]).collect();
+        ratios.sort_by(f64::total_cmp);
+        ratios[ratios.len() / 2]
+    }
+}
+
+/// Measures the passes in turn, round after round.
+pub fn measure<const N: usize>(mut passes: [Pass; N]) -> Times<N> {
+    let times: Vec<u32> = passes.iter_mut().map(repeats).collect();
+    let mut rounds = Vec::new();
+    let begun = Instant::now();
+    while rounds.len() < FEWEST_ROUNDS || (rounds.len() < MOST_ROUNDS && begun.elapsed() < TOGETHER) {
+        let mut times = times.iter();
+        rounds.push(passes.each_mut().map(|pass| round(pass, *times.next().unwrap())));
+    }
+    Times { rounds }
 }
 
 const PAINTED: usize = 512 * 1024;

@@ -57,21 +57,17 @@ impl<'a> Lines<'a> {
 /// A number in four columns, right-justified, without leading zeros.
 #[inline]
 fn number(columns: &[u8]) -> Option<u32> {
-    let columns: [u8; 4] = columns.try_into().ok()?;
-    let mut value = 0;
-    let mut blank = true;
-    for (column, byte) in columns.into_iter().enumerate() {
-        match byte {
-            b' ' if blank && column < 3 => {}
-            b'0' if blank && column < 3 => return None,
-            b'0'..=b'9' => {
-                value = value * 10 + u32::from(byte - b'0');
-                blank = false;
-            }
-            _ => return None,
-        }
+    let digits = |digits: &[u8]| {
+        let valid = digits.iter().all(u8::is_ascii_digit) && (digits[0] != b'0' || digits.len() == 1);
+        valid.then(|| digits.iter().fold(0, |value, digit| value * 10 + u32::from(digit - b'0')))
+    };
+    match columns {
+        [b' ', b' ', b' ', d] => digits(&[*d]),
+        [b' ', b' ', c, d] => digits(&[*c, *d]),
+        [b' ', b, c, d] => digits(&[*b, *c, *d]),
+        [a, b, c, d] => digits(&[*a, *b, *c, *d]),
+        _ => None,
     }
-    Some(value)
 }
 
 #[inline]
@@ -147,14 +143,8 @@ fn read_way(lines: &mut Lines, n: u32) -> Result<u64, Refusal> {
 pub fn read(sheet: &[u8]) -> Result<Plan, Refusal> {
     let mut lines = Lines { rest: sheet, line: 1 };
     let (n, m, a) = read_head(&mut lines)?;
-    let mut plan = Plan {
-        bookings: n as usize,
-        ways: a as usize,
-        exposed: 0,
-        firm: 0,
-        before: [0; 64],
-        way: [0; 16],
-    };
+    let mut plan =
+        Plan { bookings: n as usize, ways: a as usize, exposed: 0, firm: 0, before: [0; 64], way: [0; 16] };
     read_bookings(&mut lines, n, &mut plan)?;
     read_links(&mut lines, n, m, &mut plan)?;
     for way in 0..plan.ways {

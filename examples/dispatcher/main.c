@@ -155,12 +155,12 @@ int main(int count, char **words)
         return BAD_OPTION;
     if (options.help) {
         fputs(usage, stdout);
-        return (int) flush_log(DONE);
+        return flush_log(DONE);
     }
     struct plan plan;
     enum status status = load(&plan, options.path);
     if (status == DONE)
         status = flush_log(run_campaigns(&plan, &options));
     plan_free(&plan);
-    return (int) status;
+    return status;
 }
