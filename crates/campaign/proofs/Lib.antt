@@ -1,3 +1,4 @@
 pub mod Places
 pub mod Exits
 pub mod Whole
+pub mod Playing

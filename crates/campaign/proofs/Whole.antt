@@ -4,18 +4,18 @@ use mathlib.Core.Path.{_≡_, refl, sym, ap, _∙_}
 use mathlib.Core.Bool.{true}
 use mathlib.Core.List.{List, [], _∷_}
 use Prim.Native.Nat.{ℕ}
-use lib.ListN.{length}
+use lib.ListN.{length, drop}
 use borrow.Author.Tests.{eqb-true, eq-eqb}
 use Rattle.bounded.proofs.Bools.{and-l, and-r}
 use Rattle.plan.specs.Judging.{isFine}
-use Rattle.sheet.specs.Sheet.{sheetOf}
-use Rattle.sheet.proofs.Accepted.{sheet-valid}
+use Rattle.sheet.specs.Sheet.{waysPlace, sheetOf}
+use Rattle.sheet.proofs.Accepted.{sheet-valid, sheet-counts}
 use Rattle.verdict.specs.Check.{check, verdictNumber}
 use Rattle.run.specs.State.{start}
 use Rattle.run.specs.Bytes.{bytesOf}
 use Rattle.guarantee.specs.Machine.{Asked, nextOrder}
 use Rattle.guarantee.specs.Calls.{callBits, callBytes, answers, states, left, answersTo, orderAfter}
-use Rattle.guarantee.specs.Counted.{ends}
+use Rattle.guarantee.specs.Counted.{ends, waySize, waySizes}
 use Rattle.guarantee.specs.Guarantee.{Guarantee}
 use Rattle.guarantee.proofs.Plans.{plan-campaign}
 use Rattle.campaign.specs.Calls.{networkIn, passes, sheetPasses, startLeaves, askedCall, askedLeaves}
@@ -47,6 +47,11 @@ module _ (s : List ℕ) (e : sheetPasses s ≡ true) where
   left-is bs [] = refl
   left-is bs (q ∷ qs) = rw (leaves-is bs q, left-is (callBytes (networkIn s) bs q) qs)
 
+  -- the ways of the sheet and the counts on its lines
+  listed-sizes : waySizes (networkIn s) ≡ countsListed (sheetOf s .plan .a) (drop (waysPlace (sheetOf s .plan .n) (sheetOf s .plan .m)) s)
+  unfolding waySizes waySize wayOf networkIn networkOf sizeAt sheetPasses
+  listed-sizes = sym (sheet-counts s (and-l (isFine (sheetOf s .judged)) _ e))
+
   guaranteed : (qs : List Asked) → Guarantee (networkIn s) qs
   unfolding sheetPasses passes networkIn
   guaranteed qs =
@@ -57,17 +62,22 @@ module _ (s : List ℕ) (e : sheetPasses s ≡ true) where
   unfolding startLeaves
   started bs h = rw (e, eq-eqb (length bs) 65 h)
 
-  -- start is accepted with a sheet that passes and a state of 65 bytes, whatever they were; then every list of calls has the guarantee
-  pub whole-campaign : (bs : List ℕ) → length bs ≡ 65 → (qs : List Asked) → WholeCampaign s (startLeaves s bs) qs
+  -- every list of calls from the first state has the guarantee
+  pub from-start : (qs : List Asked) → WholeCampaign s (bytesOf start) qs
   unfolding answersTo orderAfter
-  whole-campaign bs h qs =
+  from-start qs =
       let g = guaranteed qs in
-      let a : answersOn s (startLeaves s bs) qs ≡ answersTo (networkIn s) qs = rw (started bs h) (answers-is (bytesOf start) qs) in
-      let x : askedCall s (leftOn s (startLeaves s bs) qs) nextOrder ≡ orderAfter (networkIn s) qs =
-      rw (started bs h, left-is (bytesOf start) qs) (call-is (left (networkIn s) (bytesOf start) qs) nextOrder) in
+      let a : answersOn s (bytesOf start) qs ≡ answersTo (networkIn s) qs = answers-is (bytesOf start) qs in
+      let x : askedCall s (leftOn s (bytesOf start) qs) nextOrder ≡ orderAfter (networkIn s) qs =
+      rw (left-is (bytesOf start) qs) (call-is (left (networkIn s) (bytesOf start) qs) nextOrder) in
       record {
         bits = a ∙ g .bits;
-        bytes = rw (started bs h) (states-is (bytesOf start) qs ∙ g .bytes);
+        bytes = states-is (bytesOf start) qs ∙ g .bytes;
         demand-3 = rw (a, x) (g .demand-3);
+        sizes = listed-sizes;
         semi-atomic = λ z. rw a (g .semi-atomic (ap ends (sym x) ∙ z));
       }
+
+  -- so it has from the state that start leaves, whatever the 65 bytes were before
+  pub whole-campaign : (bs : List ℕ) → length bs ≡ 65 → (qs : List Asked) → WholeCampaign s (startLeaves s bs) qs
+  whole-campaign bs h qs = rw (started bs h) (from-start qs)

@@ -6,11 +6,15 @@ use mathlib.Core.Path.{_≡_}
 use mathlib.Core.Bool.{true}
 use mathlib.Core.List.{List, map}
 use Prim.Native.Nat.{ℕ}
+use lib.ListN.{drop}
+use Rattle.ways.specs.Ways.{countsListed}
+use Rattle.sheet.specs.Sheet.{waysPlace, sheetOf}
+use Rattle.sheet.specs.declared.Sheet.{Sheet}
 use Rattle.run.specs.State.{start}
 use Rattle.run.specs.Bytes.{bytesOf}
 use Rattle.guarantee.specs.Answers.{pack}
 use Rattle.guarantee.specs.Machine.{Asked, nextOrder, machineAnswers, machineStates}
-use Rattle.guarantee.specs.Counted.{ends}
+use Rattle.guarantee.specs.Counted.{ends, waySizes}
 use Rattle.guarantee.specs.Demand.{Demand3, SemiAtomic}
 use Rattle.campaign.specs.Calls.{networkIn, startCall, startLeaves, askedCall}
 use Rattle.campaign.specs.Lists.{answersOn, statesOn, leftOn}
@@ -22,5 +26,7 @@ pub record WholeCampaign (s bs : List ℕ) (qs : List Asked) : Type 0 where
   pub bytes : statesOn s bs qs ≡ map bytesOf (machineStates (networkIn s) start qs)
   -- progress, flown, called off and the bound 4s + 2q, counted from the calls and their 32 bits
   pub demand-3 : Demand3 (networkIn s) qs (answersOn s bs qs) (askedCall s (leftOn s bs qs) nextOrder)
+  -- s in that bound is the sum of the counts that the sheet's way lines list
+  pub sizes : waySizes (networkIn s) ≡ countsListed (sheetOf s .plan .a) (drop (waysPlace (sheetOf s .plan .n) (sheetOf s .plan .m)) s)
   -- a list after which next order gives the end is semi-atomic
   pub semi-atomic : ends (askedCall s (leftOn s bs qs) nextOrder) ≡ true → SemiAtomic (networkIn s) qs (answersOn s bs qs)

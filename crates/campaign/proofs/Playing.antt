@@ -1,0 +1,161 @@
+-- The laws by which a list of calls is played: bytes in, bytes out, and one turn of the loop.
+-- Assumes nothing.
+use mathlib.Core.Path.{_≡_, refl, sym, ap, _∙_}
+use mathlib.Core.Logic.{inl, inr}
+use mathlib.Core.Bool.{true, false}
+use mathlib.Core.List.{List, [], _∷_, _++_, append-assoc}
+use Prim.Native.Nat.{ℕ, suc, _+_, _-_, _*_, _/_, _%_, _≤_, _<_}
+use native.Mathlib.Omega.{arith}
+use borrow.Author.Tests.{eq-eqb, ne-eqb, le-leb, lt-leb}
+use lib.ListN.{length, getD, length-append}
+use lib.Seq.{sets}
+use Rattle.bounded.proofs.Bools.{which, clash}
+use Rattle.decimal.proofs.Stores.{sets-append}
+use Rattle.plan.specs.Judging.{isFine, judgedPlace}
+use Rattle.plan.specs.declared.Judged.{Judged}
+use Rattle.plan.specs.declared.Judged.the-variants as J
+use Rattle.sheet.specs.Sheet.{sheetOf}
+use Rattle.verdict.specs.declared.Verdict.{Verdict}
+use Rattle.verdict.specs.declared.Verdict.the-variants.{Pass, Circular, Unclosed, Unused, Repeated, Stranding}
+use Rattle.verdict.specs.Check.{check, verdictNumber, verdictPlace}
+use Rattle.run.specs.State.{start}
+use Rattle.run.specs.Bytes.{bytesOf}
+use Rattle.guarantee.specs.Answers.{pack, checkBits}
+use Rattle.guarantee.specs.Machine.{Asked, nextOrder, replied}
+use Rattle.campaign.specs.Calls.{networkIn, passes, sheetPasses, judgedBits, checkCall, startCall, startLeaves, askedCall, askedLeaves}
+use Rattle.campaign.specs.Lists.{answersOn, statesOn}
+use Rattle.campaign.specs.Play.{wordAt, wordText, askAt, asksFrom, asksIn, recorded, recordOf, roomy, playCall, playLeaves}
+use Rattle.campaign.proofs.Places.{sheet-small, verdict-small}
+use Rattle.campaign.proofs.Exits.{fine-bounds}
+
+-- ---- a call by its bytes
+
+pub ask-next : (bytes : List ℕ) (i : ℕ) → getD bytes (6 * i) 0 ≡ 0 → askAt bytes i ≡ nextOrder
+unfolding askAt
+ask-next bytes i e = rw (eq-eqb (getD bytes (6 * i) 0) 0 e)
+
+pub ask-reply : (bytes : List ℕ) (i : ℕ) → (getD bytes (6 * i) 0 ≡ 0 → ⊥) → askAt bytes i ≡ replied (getD bytes (6 * i + 1) 0) (wordAt bytes (6 * i + 2))
+unfolding askAt
+ask-reply bytes i e = rw (ne-eqb (getD bytes (6 * i) 0) 0 e)
+
+-- ---- an answer as bytes
+
+pub word-length : (x : ℕ) → length (wordText x) ≡ 4
+unfolding wordText
+word-length x = refl
+
+-- five stores one after the other
+pub stored-answer : (d : List ℕ) (at x : ℕ) (bs : List ℕ)
+    → sets (sets (sets (sets (sets d at (x / 16777216 ∷ [])) (at + 1) (x / 65536 % 256 ∷ [])) (at + 2) (x / 256 % 256 ∷ [])) (at + 3) (x % 256 ∷ [])) (at + 4) bs
+    ≡ sets d at (wordText x ++ bs)
+unfolding wordText
+stored-answer d at x bs =
+    let e1 = sets-append d at (x / 16777216 ∷ []) (x / 65536 % 256 ∷ x / 256 % 256 ∷ x % 256 ∷ bs) in
+    let e2 = sets-append (sets d at (x / 16777216 ∷ [])) (at + 1) (x / 65536 % 256 ∷ []) (x / 256 % 256 ∷ x % 256 ∷ bs) in
+    let d2 : List ℕ = sets (sets d at (x / 16777216 ∷ [])) (at + 1) (x / 65536 % 256 ∷ []) in
+    let p2 : at + 1 + 1 ≡ at + 2 = omega arith in
+    let e3 = sets-append d2 (at + 2) (x / 256 % 256 ∷ []) (x % 256 ∷ bs) in
+    let d3 : List ℕ = sets d2 (at + 2) (x / 256 % 256 ∷ []) in
+    let p3 : at + 2 + 1 ≡ at + 3 = omega arith in
+    let e4 = sets-append d3 (at + 3) (x % 256 ∷ []) bs in
+    let p4 : at + 3 + 1 ≡ at + 4 = omega arith in
+    sym (e1 ∙ e2 ∙ ap (λ (k : ℕ). sets d2 k (x / 256 % 256 ∷ x % 256 ∷ bs)) p2 ∙ e3 ∙ ap (λ (k : ℕ). sets d3 k (x % 256 ∷ bs)) p3 ∙ e4
+    ∙ ap (λ (k : ℕ). sets (sets d3 (at + 3) (x % 256 ∷ [])) k bs) p4)
+
+-- ---- one turn
+
+module _ (s calls : List ℕ) where
+  more-asks : (n i : ℕ) → i < n → asksFrom (n - i) i calls ≡ askAt calls i ∷ asksFrom (n - (i + 1)) (i + 1) calls
+  unfolding asksFrom
+  more-asks n i h = let e : n - i ≡ suc (n - (i + 1)) = omega arith in rw e
+
+  no-asks : (n i : ℕ) → n ≤ i → asksFrom (n - i) i calls ≡ []
+  unfolding asksFrom
+  no-asks n i h = let e : n - i ≡ 0 = omega arith in rw e
+
+  record-more : (bs : List ℕ) (q : Asked) (qs : List Asked)
+      → recordOf s bs (q ∷ qs) ≡ (wordText (askedCall s bs q) ++ askedLeaves s bs q) ++ recordOf s (askedLeaves s bs q) qs
+  unfolding recordOf answersOn statesOn recorded
+  record-more bs q qs = sym (append-assoc (wordText (askedCall s bs q)) (askedLeaves s bs q) (recorded (answersOn s (askedLeaves s bs q) qs) (statesOn s (askedLeaves s bs q) qs)))
+
+  -- what is still to be recorded from call i on, after n calls in all
+  abbrev pub rest : ℕ → ℕ → List ℕ → List ℕ
+  rest n i bs = recordOf s bs (asksFrom (n - i) i calls)
+
+  pub play-turn : (whole d e bs after : List ℕ) (n i x : ℕ) → i < n → length after ≡ 65
+      → x ≡ askedCall s bs (askAt calls i) → after ≡ askedLeaves s bs (askAt calls i) → e ≡ sets d (69 * i) (wordText x ++ after)
+      → sets d (69 * i) (rest n i bs) ≡ whole → sets e (69 * (i + 1)) (rest n (i + 1) after) ≡ whole
+  play-turn whole d e bs after n i x h l px pa pe inv =
+      let a : List ℕ = wordText x ++ after in
+      let p : 69 * (i + 1) ≡ 69 * i + length a = omega (arith, length-append (wordText x) after, word-length x) in
+      let r : rest n i bs ≡ a ++ rest n (i + 1) after = rw (more-asks n i h) (record-more bs (askAt calls i) (asksFrom (n - (i + 1)) (i + 1) calls) ∙ rw (px, pa) refl) in
+      ap (λ (k : ℕ). sets e k (rest n (i + 1) after)) p ∙ ap (λ (f : List ℕ). sets f (69 * i + length a) (rest n (i + 1) after)) pe
+      ∙ sym (sets-append d (69 * i) a (rest n (i + 1) after)) ∙ ap (λ (t : List ℕ). sets d (69 * i) t) (sym r) ∙ inv
+
+  pub play-end : (whole d bs : List ℕ) (n i : ℕ) → n ≤ i → sets d (69 * i) (rest n i bs) ≡ whole → d ≡ whole
+  unfolding recordOf answersOn recorded
+  play-end whole d bs n i h inv = rw (no-asks n i h) at inv
+
+-- ---- the first answer tells whether the sheet passes
+
+judged-low : (j : Judged) → judgedPlace j < 65536 → judgedBits j < 16777216
+unfolding judgedBits pack
+judged-low J.Fine h = omega arith
+judged-low (J.Form l) h = omega arith
+judged-low (J.Count l) h = omega arith
+judged-low (J.Sequence l) h = omega arith
+
+verdict-low : (v : Verdict) → verdictPlace v < 65536 → passes v ≡ false → checkBits v < 16777216
+unfolding checkBits pack passes verdictNumber verdictPlace
+verdict-low Pass h e = clash true refl e
+verdict-low (Circular b) h e = omega arith
+verdict-low (Unclosed w) h e = omega arith
+verdict-low (Unused b) h e = omega arith
+verdict-low (Repeated w) h e = omega arith
+verdict-low (Stranding w b) h e = omega arith
+
+refused-low : (s : List ℕ) → sheetPasses s ≡ false → checkCall s < 16777216
+unfolding sheetPasses checkCall
+refused-low s e = elim (which (isFine (sheetOf s .judged))) [
+  | inl f ↦
+      (let b = fine-bounds s f in
+      let n : passes (check (networkIn s)) ≡ false = rw f at e in
+      rw f (verdict-low (check (networkIn s)) (verdict-small (networkIn s) (b .0) (b .1)) n))
+  | inr f ↦ rw f (judged-low (sheetOf s .judged) (sheet-small s))
+]
+
+module _ (s bs : List ℕ) (l : length bs ≡ 65) (x : ℕ) (e : x ≡ startCall s bs) where
+  pub low-refused : x < 16777216 → sheetPasses s ≡ false
+  unfolding startCall pack
+  low-refused h = elim (which (sheetPasses s)) [
+    | inl p ↦ absurd (let z : x ≡ 100663296 = rw (p, eq-eqb (length bs) 65 l) at e in omega arith)
+    | inr p ↦ p
+  ]
+
+  pub high-passes : 16777216 ≤ x → sheetPasses s ≡ true
+  unfolding startCall
+  high-passes h = elim (which (sheetPasses s)) [
+    | inl p ↦ p
+    | inr p ↦ absurd (let z : x ≡ checkCall s = rw p at e in omega (arith, refused-low s p))
+  ]
+
+  pub refused-answer : x < 16777216 → (calls : List ℕ) (d : List ℕ) → (x ≡ playCall s calls (length d)) × (d ≡ playLeaves s calls d)
+  unfolding startCall playCall playLeaves
+  refused-answer h calls d = let p = low-refused h in (rw p (rw p at e), rw p refl)
+
+  module _ (h : 16777216 ≤ x) (calls d : List ℕ) where
+    pub no-room : length d / 69 < length calls / 6 → (y : ℕ) → y ≡ pack 0 10 0 → (y ≡ playCall s calls (length d)) × (d ≡ playLeaves s calls d)
+    unfolding playCall playLeaves roomy
+    no-room r y q = let p = high-passes h in (rw (p, lt-leb (length calls / 6) (length d / 69) r) q, rw (p, lt-leb (length calls / 6) (length d / 69) r) refl)
+
+    pub accepted-is : x ≡ pack 6 0 0
+    unfolding startCall
+    accepted-is = rw (high-passes h, eq-eqb (length bs) 65 l) at e
+
+    pub started-is : startLeaves s bs ≡ bytesOf start
+    unfolding startLeaves
+    started-is = rw (high-passes h, eq-eqb (length bs) 65 l) refl
+
+    pub played : length calls / 6 ≤ length d / 69 → (f : List ℕ) → f ≡ sets d 0 (recordOf s (bytesOf start) (asksIn calls)) → (x ≡ playCall s calls (length d)) × (f ≡ playLeaves s calls d)
+    unfolding playCall playLeaves roomy
+    played r f q = let p = high-passes h in (rw (p, le-leb (length calls / 6) (length d / 69) r) accepted-is, rw (p, le-leb (length calls / 6) (length d / 69) r) q)
