@@ -3,6 +3,7 @@ use plan::Judged;
 use plan::Plan;
 use writer::Written;
 ghost use mathlib.Core.Path.{_≡_};
+ghost use Prim.Native.Nat.{_<_};
 ghost use Rattle.plan.specs.Judging.{judgedRefusal, judgedPlace};
 ghost use Rattle.writer.specs.Written.{writtenRefusal};
 
@@ -68,157 +69,111 @@ fn read(name: &[u8], s: &[u8]) {
     show(name, refusal(j), place(j) as u64);
 }
 
-fn heads() {
-    read(b"empty sheet", b"");
-    read(
-        b"whole sheet",
-        b"P   2   1   1\nB   1 C\nB   2 P\nL   1   2\nA   2   1   2\n",
-    );
-    read(
-        b"bytes remain",
-        b"P   2   1   1\nB   1 C\nB   2 P\nL   1   2\nA   2   1   2\n\n",
-    );
-    read(
-        b"CR LF",
-        b"P   2   1   1\r\nB   1 C\r\nB   2 P\r\nL   1   2\r\nA   2   1   2\r\n",
-    );
-    read(
-        b"head letter",
-        b"p   2   1   1\nB   1 C\nB   2 P\nL   1   2\nA   2   1   2\n",
-    );
-    read(
-        b"leading zero",
-        b"P0002   1   1\nB   1 C\nB   2 P\nL   1   2\nA   2   1   2\n",
-    );
-    read(
-        b"left-justified",
-        b"P2      1   1\nB   1 C\nB   2 P\nL   1   2\nA   2   1   2\n",
-    );
-    read(b"n 0", b"P   0   0   1\nA   1   1\n");
+// A sheet of two bookings, a link and a way, with b for the byte at at. Its lines start at 0, 14, 22, 30 and 40.
+fn changed(name: &[u8], at: usize, b: u8)
+    requires { ⌜ at < 54 ⌝ }
+{
+    let mut s = *b"P   2   1   1\nB   1 C\nB   2 P\nL   1   2\nA   2   1   2\n";
+    s[at] = b;
+    read(name, &s);
+}
+
+// The first k bytes of it.
+fn cut(name: &[u8], k: usize) {
+    let s = b"P   2   1   1\nB   1 C\nB   2 P\nL   1   2\nA   2   1   2\n";
+    read(name, decimal::part(s, 0, k));
+}
+
+// A sheet of one booking whose head has other counts.
+fn counts() {
     read(b"n 65", b"P  65   0   1\nB   1 C\nA   1   1\n");
+    read(
+        b"n 65 without a line feed",
+        b"P  65   0   1 B   1 C\nA   1   1\n",
+    );
     read(b"m 513", b"P   1 513   1\nB   1 C\nA   1   1\n");
     read(b"a 0", b"P   1   0   0\nB   1 C\n");
     read(b"a 17", b"P   1   0  17\nB   1 C\nA   1   1\n");
-    read(b"n 65, no line feed", b"P  65   0   1 B   1 C\nA   1   1\n");
+    read(b"CR LF", b"P   1   0   1\r\nB   1 C\r\nA   1   1\r\n");
+}
+
+fn heads() {
+    cut(b"empty sheet", 0);
+    changed(b"letter of the head", 0, b'p');
+    changed(b"leading zero", 3, b'0');
+    changed(b"no number", 4, b' ');
+    changed(b"n 0", 4, b'0');
+    changed(b"n 1", 4, b'1');
+    changed(b"n 3", 4, b'3');
+    changed(b"m 2", 8, b'2');
+    changed(b"a 2", 12, b'2');
+    changed(b"CR after the head", 13, b'\r');
 }
 
 fn bookings() {
+    changed(b"letter of a booking", 14, b'C');
+    changed(b"leading zero of a booking", 17, b'0');
+    changed(b"no space before a kind", 19, b'C');
+    changed(b"kind X", 20, b'X');
+    changed(b"booking 3 for 2", 26, b'3');
+    changed(b"CR after a booking", 29, b'\r');
     read(
-        b"booking letter",
-        b"P   2   1   1\nC   1 C\nB   2 P\nL   1   2\nA   2   1   2\n",
+        b"booking 3 for 2 with kind X",
+        b"P   2   0   1\nB   1 C\nB   3 X\nA   2   1   2\n",
     );
     read(
-        b"booking in CR LF",
-        b"P   2   1   1\nB   1 C\nB   2 P\r\nL   1   2\nA   2   1   2\n",
-    );
-    read(
-        b"booking with leading zero",
-        b"P   2   1   1\nB0001 C\nB   2 P\nL   1   2\nA   2   1   2\n",
-    );
-    read(
-        b"kind X",
-        b"P   2   1   1\nB   1 X\nB   2 P\nL   1   2\nA   2   1   2\n",
-    );
-    read(
-        b"no space before the kind",
-        b"P   2   1   1\nB   1CC\nB   2 P\nL   1   2\nA   2   1   2\n",
-    );
-    read(
-        b"booking 3 for 2",
-        b"P   2   1   1\nB   1 C\nB   3 P\nL   1   2\nA   2   1   2\n",
-    );
-    read(
-        b"booking 3 for 2, kind X",
-        b"P   2   1   1\nB   1 C\nB   3 X\nL   1   2\nA   2   1   2\n",
-    );
-    read(
-        b"booking 3 for 2, then a bad link",
-        b"P   2   1   1\nB   1 C\nB   3 P\nM   1   2\nA   2   1   2\n",
+        b"booking 3 for 2, then a bad way",
+        b"P   2   0   1\nB   1 C\nB   3 P\na   2   1   2\n",
     );
 }
 
 fn links() {
-    read(
-        b"link letter",
-        b"P   2   1   1\nB   1 C\nB   2 P\nM   1   2\nA   2   1   2\n",
-    );
-    read(
-        b"link without a number",
-        b"P   2   1   1\nB   1 C\nB   2 P\nL   1   x\nA   2   1   2\n",
-    );
-    read(
-        b"link from 0",
-        b"P   2   1   1\nB   1 C\nB   2 P\nL   0   2\nA   2   1   2\n",
-    );
-    read(
-        b"link to 3",
-        b"P   2   1   1\nB   1 C\nB   2 P\nL   1   3\nA   2   1   2\n",
-    );
-    read(
-        b"link to itself",
-        b"P   2   1   1\nB   1 C\nB   2 P\nL   1   1\nA   2   1   2\n",
-    );
+    changed(b"letter of a link", 30, b'M');
+    changed(b"link from 0", 34, b'0');
+    changed(b"link to x", 38, b'x');
+    changed(b"link to 3", 38, b'3');
+    changed(b"link to itself", 38, b'1');
+    changed(b"CR after a link", 39, b'\r');
     read(
         b"link twice",
-        b"P   2   2   1\nB   1 C\nB   2 P\nL   1   2\nL   1   2\nA   2   1   2\n",
+        b"P   1   2   1\nB   1 C\nL   1   1\nL   1   1\nA   1   1\n",
     );
     read(
         b"links falling",
-        b"P   2   2   1\nB   1 C\nB   2 P\nL   2   1\nL   1   2\nA   2   1   2\n",
+        b"P   2   2   1\nB   1 C\nB   2 C\nL   2   1\nL   1   2\nA   1   1\n",
     );
 }
 
 fn ways() {
-    read(
-        b"way letter",
-        b"P   2   1   1\nB   1 C\nB   2 P\nL   1   2\nB   2   1   2\n",
-    );
-    read(
-        b"way of 0",
-        b"P   2   1   1\nB   1 C\nB   2 P\nL   1   2\nA   0\n",
-    );
-    read(
-        b"way of 0 at the end",
-        b"P   2   1   1\nB   1 C\nB   2 P\nL   1   2\nA   0",
-    );
-    read(
-        b"way of 3 of 2",
-        b"P   2   1   1\nB   1 C\nB   2 P\nL   1   2\nA   3   1   2   2\n",
-    );
-    read(
-        b"surplus number",
-        b"P   2   1   1\nB   1 C\nB   2 P\nL   1   2\nA   1   1   2\n",
-    );
+    changed(b"letter of a way", 40, b'B');
+    changed(b"way of 0", 44, b'0');
+    changed(b"way of 3 of 2", 44, b'3');
+    changed(b"surplus number", 44, b'1');
+    changed(b"number twice", 48, b'2');
+    changed(b"number 3 of 2", 52, b'3');
+    changed(b"leading zero of the last number", 51, b'0');
+    changed(b"CR after a way", 53, b'\r');
+}
+
+fn more_ways() {
+    read(b"way of 0 at the end", b"P   1   0   1\nB   1 C\nA   0");
     read(
         b"missing number",
-        b"P   2   1   1\nB   1 C\nB   2 P\nL   1   2\nA   2   1\n",
+        b"P   2   0   1\nB   1 C\nB   2 P\nA   2   1\n",
     );
     read(
         b"numbers falling",
-        b"P   2   1   1\nB   1 C\nB   2 P\nL   1   2\nA   2   2   1\n",
-    );
-    read(
-        b"number twice",
-        b"P   2   1   1\nB   1 C\nB   2 P\nL   1   2\nA   2   1   1\n",
-    );
-    read(
-        b"number 3 of 2",
-        b"P   2   1   1\nB   1 C\nB   2 P\nL   1   2\nA   2   1   3\n",
+        b"P   2   0   1\nB   1 C\nB   2 P\nA   2   2   1\n",
     );
     read(
         b"numbers falling, the last damaged",
-        b"P   2   1   1\nB   1 C\nB   2 P\nL   1   2\nA   2   2  01\n",
+        b"P   2   0   1\nB   1 C\nB   2 P\nA   2   2  01\n",
     );
     read(
         b"second way",
-        b"P   2   1   2\nB   1 C\nB   2 P\nL   1   2\nA   2   1   2\nA   1   0\n",
+        b"P   1   0   2\nB   1 C\nA   1   1\nA   1   0\n",
     );
-}
-
-// Reads the first k bytes of a sheet.
-fn cut(name: &[u8], k: usize) {
-    let s = b"P   2   1   1\nB   1 C\nB   2 P\nL   1   2\nA   2   1   2\n";
-    read(name, decimal::part(s, 0, k));
+    read(b"bytes remain", b"P   1   0   1\nB   1 C\nA   1   1\n\n");
 }
 
 fn truncations() {
@@ -256,14 +211,19 @@ fn full(m: usize, a: usize) -> Plan {
     }
 }
 
+// As many bytes as the longest sheet has.
+fn room(b: u8) -> [u8; 9838] {
+    [b; 9838]
+}
+
 // Writes a record, reads what was written, writes what was read, and prints the length, and 1 where both texts are the same.
 fn round_trip(name: &[u8], m: usize, a: usize) {
-    let mut first = [0u8; 9838];
+    let mut first = room(0);
     let k = length_of(writer::write_sheet(&mut first, full(m, a)));
     read(name, decimal::part(&first, 0, k));
     let sheet = sheet::read_sheet(decimal::part(&first, 0, k));
     let plan = sheet.plan;
-    let mut second = [0u8; 9838];
+    let mut second = room(0);
     let l = length_of(writer::write_sheet(&mut second, plan));
     let same = decimal::equal(&first, &second);
     show(b"  length, same", l as u64, same as u64);
@@ -288,14 +248,14 @@ fn write(name: &[u8], buf: &mut [u8], n: usize, k: u8) {
     };
     let w = writer::write_sheet(buf, q);
     show(name, refusal_of_record(w), 0);
-    let sevens = [7u8; 9838];
+    let sevens = room(7);
     let kept = decimal::equal(buf, decimal::part(&sevens, 0, buf.len()));
     show(b"  length, kept", length_of(w) as u64, kept as u64);
 }
 
 // Into a buffer that is as long as the longest sheet.
 fn write_longest(name: &[u8], n: usize, k: u8) {
-    let mut buf = [7u8; 9838];
+    let mut buf = room(7);
     write(name, &mut buf, n, k);
 }
 
@@ -320,10 +280,12 @@ fn records() {
 }
 
 fn main() {
+    counts();
     heads();
     bookings();
     links();
     ways();
+    more_ways();
     truncations();
     records();
 }
