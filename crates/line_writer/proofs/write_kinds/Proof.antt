@@ -19,7 +19,11 @@ loop-holds : tie.Need-loop-holds Inv-loop μ-loop
 loop-holds c = (search needs, refl, simp (add-zero, sub-zero, mul-zero))
 
 loop-again : tie.Need-loop-again Inv-loop μ-loop
-loop-again c = (search needs, search needs, search kinds-on)
+loop-again c =
+    let e = c .before .before in
+    let l = e .before .before .before in
+    let a = l .before .before .args in
+    (search needs, search needs, kinds-on (a .n) (a .at) (l .loop .i) (l .loop .buf) _ (a .t4) _ (e .before .before .loop-test .taken) (l .loop .inv .2) (e .write-booking .ensures))
 
 returns : tie.Need-returns Inv-loop μ-loop
 returns c = search kinds-all

@@ -25,7 +25,11 @@ cast-v : tie.Need-cast-v Inv-loop μ-loop
 cast-v c = search needs
 
 loop-again : tie.Need-loop-again Inv-loop μ-loop
-loop-again c = (search needs, search needs, search links-on)
+loop-again c =
+    let e = c .before .before in
+    let l = e .before .before .before in
+    let a = l .before .before .args in
+    (search needs, search needs, links-on (a .m) (a .at) (l .loop .i) (l .loop .buf) _ (a .t4) (a .t5) _ (e .before .before .loop-test .taken) (l .loop .inv .2) (e .write-link .ensures))
 
 returns : tie.Need-returns Inv-loop μ-loop
 returns c = search links-all
