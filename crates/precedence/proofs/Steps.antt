@@ -6,10 +6,10 @@ use mathlib.Core.Bool.{true, false, _&&_, _||_}
 use mathlib.Core.List.{List}
 use Prim.Native.Nat.{ℕ, _+_, _<_}
 use native.Mathlib.Numerals.{add-one}
-use lib.Bits.{bitOr}
-use lib.ListN.{getD}
+use lib.Bits.{bitOr, or-zero-r}
+use lib.ListN.{length, getD}
 use Rattle.bounded.proofs.Bools.{which, or-l, or-r, or-cases, or-false, and-i, and-l, and-r}
-use Rattle.bounded.proofs.Lists.{table-at}
+use Rattle.bounded.proofs.Lists.{table-at, table-is}
 use Rattle.sets.specs.Sets.{member}
 use Rattle.sets.proofs.Members.{member-or}
 use Rattle.precedence.specs.Precedence.{before, joinedOf, throughAt, throughOf, closureTo}
@@ -31,6 +31,15 @@ joined-member u s via k =
 through-before : (p : List ℕ) (k u v : ℕ) → v < 64 → before (throughOf p k) u v ≡ before p u v || (before p k v && before p u k)
 unfolding before throughOf throughAt
 through-before p k u v h = ap (λ (x : ℕ). member x u) (table-at (throughAt p k) 64 v h) ∙ joined-member u (getD p v 0) (getD p k 0) k
+
+-- a step changes nothing where nothing comes before k
+joined-none : (s via k : ℕ) → via ≡ 0 → s ≡ joinedOf s via k
+joined-none s via k z =
+    ⊎-elim (λ (e : member s k ≡ true). sym (sym (joined-yes s via k e) ∙ rw z (or-zero-r s))) (λ (e : member s k ≡ false). joined-no s via k e) (which (member s k))
+
+pub through-none : (p : List ℕ) (k : ℕ) → length p ≡ 64 → getD p k 0 ≡ 0 → p ≡ throughOf p k
+unfolding throughOf throughAt
+through-none p k l z = table-is (throughAt p k) 64 p l (λ v h. joined-none (getD p v 0) (getD p k 0) k z)
 
 -- a turn of the loop that keeps `p ≡ closureTo d k`
 pub closure-step : (d p : List ℕ) (k : ℕ) → p ≡ closureTo d k → throughOf p k ≡ closureTo d (k + 1)

@@ -3,13 +3,13 @@
 use mathlib.Core.Path.{_≡_, refl, sym, ap, _∙_}
 use mathlib.Core.Logic.{⊎-elim}
 use mathlib.Core.Bool.{Bool, true, false, not, _&&_, _||_}
-use Prim.Native.Nat.{ℕ, zero, suc, _+_, _-_, _*_, _/_, _%_, _^_, _<_, suc-le-suc}
+use Prim.Native.Nat.{ℕ, zero, suc, _/_, _%_, _^_, _<_, suc-le-suc}
 use native.Mathlib.Nat.{mod-lt, lt-of-le-of-lt, not-suc-le-zero, le-of-suc-le-suc}
 use native.Mathlib.Omega.{arith}
 use borrow.Author.Tests.{eqb-true, eq-eqb, ne-eqb}
 use lib.Dec.{eqb}
-use lib.Pow.{pow-pos, pow-lt, pow-add}
-use lib.Bits.{bitAnd, bitOr, bitXor, and-high, and-le-l, or-lt, xor-lt}
+use lib.Pow.{pow-lt}
+use lib.Bits.{bitAnd, bitOr, bitXor, and-le-l, or-lt, xor-lt}
 use lib.Count.{trailingZeros, under}
 use Rattle.bounded.specs.Bounded.{imp, any, all, first}
 use Rattle.bounded.proofs.Bools.{which, clash, same-test, not-t}
@@ -18,17 +18,6 @@ use Rattle.bounded.proofs.First.{Least, first-is}
 use Rattle.sets.specs.Sets.{member, inserted, insert, only, without, kept, subsetOf, apart, disjointFrom}
 use Rattle.sets.proofs.Members.{two-pos, binary, unlike, member-and, member-or, member-xor, member-zero, member-power, member-suc, low-digit, same-set}
 use Rattle.sets.proofs.Gather.{gather-is, member-gather}
-
--- `s & 2 ^ i` is 0 where i is no member
-pub has-bit : (s i : ℕ) → not (eqb (bitAnd s (2 ^ i)) 0) ≡ member s i
-unfolding member
-has-bit s i =
-    ap (λ (x : ℕ). not (eqb x 0)) (ap (bitAnd s) plain ∙ and-high s 1 i)
-    ∙ ⊎-elim (λ (p : s / 2 ^ i % 2 ≡ 0). rw p (ap not (eq-eqb (0 * 2 ^ i) 0 (omega arith))))
-    (λ (p : s / 2 ^ i % 2 ≡ 1). rw p (ap not (ne-eqb (1 * 2 ^ i) 0 (λ q. omega (arith, pow-pos i))))) (binary (mod-lt (s / 2 ^ i) two-pos))
-  where
-    plain : 2 ^ i ≡ 2 ^ (1 + i) - 2 ^ i
-    plain = omega (arith, pow-add 2 1 i)
 
 -- `s | 2 ^ i` puts i in
 pub put-bit : (s i : ℕ) → i < 64 → s < 2 ^ 64 → bitOr s (2 ^ i) ≡ insert s i

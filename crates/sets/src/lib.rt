@@ -97,7 +97,7 @@ pub fn has(s: u64, i: usize) -> bool
     requires { ⌜ i < 64 ⌝ }
     ensures { λ r. ⌜ r ≡ member s i ⌝ }
 {
-    s & bit(i) != 0
+    (s >> i) % 2 == 1
 }
 
 // The set s with index i put in.

@@ -19,7 +19,7 @@ unfolding closureTo
 loop-holds c = (omega arith, refl)
 
 loop-again : tie.Need-loop-again Inv-loop μ-loop
-loop-again c = (omega arith, c .through .ensures ∙ closure-step _ _ _ (c .before .before .loop .inv .1))
+loop-again c = (omega arith, c .stepped .ensures ∙ closure-step _ _ _ (c .before .before .loop .inv .1))
 
 returns : tie.Need-returns Inv-loop μ-loop
 unfolding closureOf
