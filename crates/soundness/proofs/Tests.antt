@@ -2,7 +2,7 @@
 -- Assumes nothing.
 use mathlib.Core.Path.{_≡_, refl, sym, ap, ap₂, _∙_}
 use mathlib.Core.Logic.{_≢_, inl, inr}
-use mathlib.Core.Bool.{Bool, true, false, not, _&&_, _||_}
+use mathlib.Core.Bool.{Bool, true, false, not, _&&_, _||_, cond}
 use mathlib.Core.List.{List}
 use Prim.Native.Nat.{ℕ, zero, suc, _-_, _≤_, _<_}
 use native.Mathlib.Omega.{arith}
@@ -11,7 +11,7 @@ use lib.Dec.{eqb, ltb, leb}
 use lib.Bits.{bitAnd, bitOr}
 use lib.ListN.{getD}
 use Rattle.bounded.specs.Bounded.{imp, any, all}
-use Rattle.bounded.proofs.Bools.{split?, off, clash, and-true, and-no-r, and-l, and-r, not-i, not-t, not-f}
+use Rattle.bounded.proofs.Bools.{split?, off, clash, and-true, and-no-r, and-l, and-r, _&_, or-l, or-go, not-i, not-t, not-f}
 use Rattle.bounded.proofs.Tests.{all-i, all-e, all-ext}
 use Rattle.bounded.proofs.Loops.{So-far}
 use Rattle.sets.specs.Sets.{member, gather, only, without, subsetOf, allBelow}
@@ -22,7 +22,7 @@ use Rattle.sets.proofs.Whole.{gather-ext, gather-and, gather-or, gather-without
 use Rattle.verdict.specs.declared.Network.{Network}
 use Rattle.verdict.specs.Network.{wayOf, inWay, firm, exposed, returnable, some}
 use Rattle.run.specs.declared.Run.{Run}
-use Rattle.run.specs.State.{is, coded, requested, lost, heldFirm, liveAt}
+use Rattle.run.specs.State.{is, coded, requested, lost, heldFirmAt, heldFirm, liveAt}
 use Rattle.run.specs.Orders.{ready}
 use Rattle.run.specs.Sound.{codesKnown, wayKnown, zeroPast, restZero, founded, allFounded, lostExposed, requestedInside, mayReturn, returningOutside, leaving, quiet, waysBefore, passedOver, earlierDead, firmInside, pending, lostPending, sound}
 use Rattle.run.proofs.Codes.{liveIn, live-in}
@@ -33,10 +33,6 @@ subset-all : (p q : ℕ → Bool) (n s t : ℕ) → n ≤ 64 → s ≡ gather p 
 subset-all p q n s t h e m =
     ap (λ (x : ℕ). subsetOf x t) e ∙ sym (all-subset p t n h)
     ∙ all-ext (λ i. imp (p i) (member t i)) (λ i. imp (p i) (q i)) n (λ i l. ap (imp (p i)) (m i l))
-
-not-not : (b : Bool) → b ≡ not (not b)
-not-not true = refl
-not-not false = refl
 
 -- a code of the array is at most 4
 unfoldable pub knownIn : List ℕ → ℕ → Bool
@@ -62,63 +58,92 @@ module _ (g : Network) (r : Run) where
 
 -- ---- the rest, where n is at most 64
 
-module _ (g : Network) (r : Run) (h : g .n ≤ 64) where
-  pub founded-is : (a b c t : ℕ) → a ≡ gather (is r 1) (g .n) → b ≡ gather (is r 2) (g .n) → c ≡ gather (is r 4) (g .n) → t ≡ gather (ready g r) (g .n)
-      → subsetOf (bitOr a (bitOr b c)) t ≡ allFounded g r
-  unfolding allFounded founded
-  founded-is a b c t ea eb ec et =
-      subset-all (λ i. is r 1 i || (is r 2 i || is r 4 i)) (ready g r) (g .n) (bitOr a (bitOr b c)) t h
-      (ap₂ bitOr ea (ap₂ bitOr eb ec ∙ gather-or (is r 2) (is r 4) (g .n)) ∙ gather-or (is r 1) (λ i. is r 2 i || is r 4 i) (g .n))
-      (λ i l. ap (λ (x : ℕ). member x i) et ∙ member-gather (ready g r) (g .n) i l)
+-- the sets that the sentences look at: requested, held, lost, returning, ready, and the current way
+pub record Sets-of (g : Network) (r : Run) (q h l b y w : ℕ) : Type 0 where
+  pub small : g .n ≤ 64
+  pub requests : q ≡ gather (is r 1) (g .n)
+  pub holds : h ≡ gather (is r 2) (g .n)
+  pub loses : l ≡ gather (is r 3) (g .n)
+  pub returns : b ≡ gather (is r 4) (g .n)
+  pub readies : y ≡ gather (ready g r) (g .n)
+  pub here : w ≡ wayOf g (r .way)
 
-  pub returning-is : (s a w t : ℕ) → s ≡ gather (is r 4) (g .n) → a ≡ without (g .exposed) (g .firm) → w ≡ wayOf g (r .way) → t ≡ without a w
-      → subsetOf s t ≡ returningOutside g r
+either-is : (a b : Bool) → a || b ≡ imp (not a) (not (not b))
+either-is true true = refl
+either-is true false = refl
+either-is false true = refl
+either-is false false = refl
+
+-- y, or no booking where t holds
+masked : (t : Bool) (y i : ℕ) (x : Bool) → member y i ≡ x → member (cond t 0 y) i ≡ x && not t
+masked true y i x e = member-zero i ∙ sym (and-no-r x false refl)
+masked false y i x e = e ∙ sym (and-true x)
+
+module _ {g : Network} {r : Run} {q h l b y w : ℕ} (s : Sets-of g r q h l b y w) where
+  ready-at : (i : ℕ) → i < g .n → member y i ≡ ready g r i
+  ready-at i k = ap (λ (x : ℕ). member x i) (s .readies) ∙ member-gather (ready g r) (g .n) i k
+
+  pub founded-is : subsetOf (bitOr q (bitOr h b)) y ≡ allFounded g r
+  unfolding allFounded founded
+  founded-is =
+      subset-all (λ i. is r 1 i || (is r 2 i || is r 4 i)) (ready g r) (g .n) (bitOr q (bitOr h b)) y (s .small)
+      (ap₂ bitOr (s .requests) (ap₂ bitOr (s .holds) (s .returns) ∙ gather-or (is r 2) (is r 4) (g .n)) ∙ gather-or (is r 1) (λ i. is r 2 i || is r 4 i) (g .n))
+      ready-at
+
+  pub exposed-is : subsetOf l (g .exposed) ≡ lostExposed g r
+  unfolding lostExposed coded
+  exposed-is = ap (λ (x : ℕ). subsetOf x (g .exposed)) (s .loses)
+
+  pub requested-is : subsetOf q w ≡ requestedInside g r
+  unfolding requestedInside coded
+  requested-is = ap₂ subsetOf (s .requests) (s .here)
+
+  pub returning-is : subsetOf b (without (without (g .exposed) (g .firm)) w) ≡ returningOutside g r
   unfolding returningOutside mayReturn returnable exposed firm inWay
-  returning-is s a w t es ea ew et =
-      subset-all (is r 4) (λ i. (member (g .exposed) i && not (member (g .firm) i)) && not (member (wayOf g (r .way)) i)) (g .n) s t h es
-      (λ i l. ap (λ (x : ℕ). member x i) (et ∙ ap₂ without ea ew) ∙ member-without (without (g .exposed) (g .firm)) (wayOf g (r .way)) i (omega arith)
-      ∙ ap (λ (b : Bool). b && not (member (wayOf g (r .way)) i)) (member-without (g .exposed) (g .firm) i (omega arith)))
+  returning-is =
+      subset-all (is r 4) (λ i. (member (g .exposed) i && not (member (g .firm) i)) && not (member (wayOf g (r .way)) i)) (g .n) b _ (s .small) (s .returns)
+      (λ i k. ap (λ (x : ℕ). member (without (without (g .exposed) (g .firm)) x) i) (s .here)
+      ∙ member-without (without (g .exposed) (g .firm)) (wayOf g (r .way)) i (omega (arith, s .small))
+      ∙ ap (λ (t : Bool). t && not (member (wayOf g (r .way)) i)) (member-without (g .exposed) (g .firm) i (omega (arith, s .small))))
 
   -- what is on its way out
-  leaving-set : (a w m c : ℕ) → a ≡ gather (is r 2) (g .n) → w ≡ wayOf g (r .way) → m ≡ without a w → c ≡ gather (is r 4) (g .n)
-      → any (leaving g r) (g .n) ≡ not (eqb (bitOr m c) 0)
+  leaving-set : any (leaving g r) (g .n) ≡ not (eqb (bitOr (without h w) b) 0)
   unfolding leaving inWay
-  leaving-set a w m c ea ew em ec =
-      any-gather (leaving g r) (g .n) h
+  leaving-set =
+      any-gather (leaving g r) (g .n) (s .small)
       ∙ ap (λ (x : ℕ). not (eqb x 0))
       (sym (gather-or (λ i. is r 2 i && not (member (wayOf g (r .way)) i)) (is r 4) (g .n))
-      ∙ ap₂ bitOr (sym (gather-without (is r 2) (g .n) (wayOf g (r .way)) h) ∙ ap₂ without (sym ea) (sym ew) ∙ sym em) (sym ec))
+      ∙ ap₂ bitOr (sym (gather-without (is r 2) (g .n) (wayOf g (r .way)) (s .small)) ∙ ap₂ without (sym (s .holds)) (sym (s .here))) (sym (s .returns)))
 
-  module _ (a w m c : ℕ) (ea : a ≡ gather (is r 2) (g .n)) (ew : w ≡ wayOf g (r .way)) (em : m ≡ without a w) (ec : c ≡ gather (is r 4) (g .n)) where
-    pub quiet-none : bitOr m c ≡ 0 → true ≡ quiet g r
-    unfolding quiet
-    quiet-none z = rw (leaving-set a w m c ea ew em ec, eq-eqb (bitOr m c) 0 z)
+  pub quiet-is : eqb (bitOr (without h w) b) 0 || eqb q 0 ≡ quiet g r
+  unfolding quiet some coded
+  quiet-is = rw (leaving-set, ← (s .requests)) (either-is (eqb (bitOr (without h w) b) 0) (eqb q 0))
 
-    pub quiet-some : bitOr m c ≢ 0 → (s : ℕ) → s ≡ gather (is r 1) (g .n) → eqb s 0 ≡ quiet g r
-    unfolding quiet some coded
-    quiet-some d s e = rw (leaving-set a w m c ea ew em ec, ne-eqb (bitOr m c) 0 d, ← e) (not-not (eqb s 0))
+  pub firm-is : subsetOf (bitAnd h (g .firm)) w ≡ firmInside g r
+  unfolding firmInside heldFirm heldFirmAt firm
+  firm-is = ap₂ subsetOf (ap (λ (x : ℕ). bitAnd x (g .firm)) (s .holds) ∙ gather-and (is r 2) (g .n) (g .firm)) (s .here)
 
-  -- lost bookings of the current way
-  gone-is : (q : ℕ → Bool) (a w t : ℕ) → a ≡ gather (is r 3) (g .n) → w ≡ wayOf g (r .way) → ((i : ℕ) → i < g .n → member t i ≡ q i)
-      → subsetOf (bitAnd a w) t ≡ all (λ i. imp (is r 3 i && inWay g (r .way) i) (q i)) (g .n)
-  unfolding inWay
-  gone-is q a w t ea ew m =
-      subset-all (λ i. is r 3 i && member (wayOf g (r .way)) i) q (g .n) (bitAnd a w) t h
-      (ap₂ bitAnd ea ew ∙ gather-and (is r 3) (g .n) (wayOf g (r .way))) m
+  pub pending-is : subsetOf (bitAnd l w) (cond (eqb q 0) 0 y) ≡ lostPending g r
+  unfolding lostPending pending some coded inWay
+  pending-is =
+      subset-all (λ i. is r 3 i && member (wayOf g (r .way)) i) (λ i. ready g r i && not (eqb (gather (is r 1) (g .n)) 0)) (g .n) (bitAnd l w) _ (s .small)
+      (ap₂ bitAnd (s .loses) (s .here) ∙ gather-and (is r 3) (g .n) (wayOf g (r .way)))
+      (λ i k. masked (eqb q 0) y i (ready g r i) (ready-at i k) ∙ ap (λ (x : ℕ). ready g r i && not (eqb x 0)) (s .requests))
 
-  module _ (a w s : ℕ) (ea : a ≡ gather (is r 3) (g .n)) (ew : w ≡ wayOf g (r .way)) (es : s ≡ gather (is r 1) (g .n)) where
-    pub pending-none : s ≡ 0 → subsetOf (bitAnd a w) 0 ≡ lostPending g r
-    unfolding lostPending pending some coded
-    pending-none z =
-        gone-is (λ i. ready g r i && not (eqb (gather (is r 1) (g .n)) 0)) a w 0 ea ew
-        (λ i l. member-zero i ∙ sym (and-no-r (ready g r i) (not (eqb (gather (is r 1) (g .n)) 0)) (ap not (eq-eqb (gather (is r 1) (g .n)) 0 (sym es ∙ z)))))
+-- ---- the exits of the tests over sets
 
-    pub pending-some : s ≢ 0 → (t : ℕ) → t ≡ gather (ready g r) (g .n) → subsetOf (bitAnd a w) t ≡ lostPending g r
-    unfolding lostPending pending some coded
-    pending-some d t et =
-        gone-is (λ i. ready g r i && not (eqb (gather (is r 1) (g .n)) 0)) a w t ea ew
-        (λ i l. ap (λ (x : ℕ). member x i) et ∙ member-gather (ready g r) (g .n) i l
-        ∙ sym (ap (λ (b : Bool). ready g r i && b) (ap not (ne-eqb (gather (is r 1) (g .n)) 0 (λ z. d (es ∙ z)))) ∙ and-true (ready g r i)))
+module _ (h w b q m : ℕ) (em : m ≡ without h w) where
+  pub quiet-none : bitOr m b ≡ 0 → true ≡ eqb (bitOr (without h w) b) 0 || eqb q 0
+  quiet-none z = sym (or-l _ _ (eq-eqb (bitOr (without h w) b) 0 (ap (λ (x : ℕ). bitOr x b) (sym em) ∙ z)))
+
+  pub quiet-some : bitOr m b ≢ 0 → eqb q 0 ≡ eqb (bitOr (without h w) b) 0 || eqb q 0
+  quiet-some d = or-go _ _ (ne-eqb (bitOr (without h w) b) 0 (λ z. d (ap (λ (x : ℕ). bitOr x b) em ∙ z)))
+
+pub pending-none : (s q y : ℕ) → q ≡ 0 → subsetOf s 0 ≡ subsetOf s (cond (eqb q 0) 0 y)
+pending-none s q y z = rw (eq-eqb q 0 z)
+
+pub pending-some : (s q y : ℕ) → q ≢ 0 → subsetOf s y ≡ subsetOf s (cond (eqb q 0) 0 y)
+pending-some s q y d = rw (ne-eqb q 0 d)
 
 -- ---- the ways before the current one
 
@@ -147,9 +172,7 @@ module _ (g : Network) (r : Run) (l f e : ℕ) (el : l ≡ gather (is r 3) (g .n
 -- ---- all sentences
 
 pub record Parts (g : Network) (r : Run) : Type 0 where
-  pub codes : codesKnown r ≡ true
-  pub way : wayKnown g r ≡ true
-  pub rest : restZero g r ≡ true
+  pub formed : codesKnown r && (wayKnown g r && restZero g r) ≡ true
   pub founds : allFounded g r ≡ true
   pub exposes : lostExposed g r ≡ true
   pub requests : requestedInside g r ≡ true
@@ -171,9 +194,7 @@ parts g r e =
     let e8 = and-r (quiet g r) _ e7 in
     let e9 = and-r (earlierDead g r) _ e8 in
     record {
-      codes = and-l (codesKnown r) _ e;
-      way = and-l (wayKnown g r) _ e1;
-      rest = and-l (restZero g r) _ e2;
+      formed = and-l (codesKnown r) _ e & (and-l (wayKnown g r) _ e1 & and-l (restZero g r) _ e2);
       founds = and-l (allFounded g r) _ e3;
       exposes = and-l (lostExposed g r) _ e4;
       requests = and-l (requestedInside g r) _ e5;
@@ -194,8 +215,10 @@ went {x} p q = sym p ∙ not-f x q
 -- the last sentence decides where all others hold
 pub sound-last : (g : Network) (r : Run) → Parts g r → lostPending g r ≡ sound g r
 unfolding sound
-sound-last g r p = rw (p .codes, p .way, p .rest, p .founds, p .exposes, p .requests, p .returns, p .quiets, p .earlier, p .firms)
+sound-last g r p =
+    let f = and-r (codesKnown r) _ (p .formed) in
+    rw (and-l (codesKnown r) _ (p .formed), and-l (wayKnown g r) _ f, and-r (wayKnown g r) _ f, p .founds, p .exposes, p .requests, p .returns, p .quiets, p .earlier, p .firms)
 
-pub way-few : (g : Network) (r : Run) (x : Bool) → x ≡ wayKnown g r → not x ≡ false → g .a ≤ 16 → r .way ≤ 16
+pub way-few : (g : Network) (r : Run) (x : Bool) → x ≡ (codesKnown r && (wayKnown g r && restZero g r)) → not x ≡ false → g .a ≤ 16 → r .way ≤ 16
 unfolding wayKnown
-way-few g r x e n h = omega (arith, leb-true (r .way) (g .a) (went e n))
+way-few g r x e n h = omega (arith, leb-true (r .way) (g .a) (and-l (leb (r .way) (g .a)) _ (and-r (codesKnown r) _ (went e n))))

@@ -2,8 +2,12 @@
 use run::Run;
 use verdict::Network;
 ghost use mathlib.Core.Path.{_≡_};
+ghost use mathlib.Core.Bool.{_&&_, _||_, cond};
 ghost use Prim.Native.Nat.{_≤_};
-ghost use Rattle.run.specs.Sound.{codesKnown, wayKnown, restZero, allFounded, lostExposed, requestedInside, returningOutside, quiet, waysBefore, earlierDead, firmInside, lostPending, sound};
+ghost use lib.Dec.{eqb};
+ghost use lib.Bits.{bitAnd, bitOr};
+ghost use Rattle.sets.specs.Sets.{without, subsetOf};
+ghost use Rattle.run.specs.Sound.{codesKnown, wayKnown, restZero, waysBefore, earlierDead, sound};
 
 // Codes are at most 4.
 fn codes_known(r: Run) -> bool
@@ -34,51 +38,54 @@ fn rest_zero(g: Network, r: Run) -> bool
     sets::subset(past, r.coded(64, 0))
 }
 
+// What a state must be before its sets are looked at: known codes, a known way, and nothing past n.
+fn is_formed(g: Network, r: Run) -> bool
+    requires { ⌜ g .n ≤ 64 ⌝ }
+    ensures { λ t. ⌜ t ≡ (codesKnown r && (wayKnown g r && restZero g r)) ⌝ }
+{
+    if !codes_known(r) {
+        return false;
+    }
+    if !way_known(g, r) {
+        return false;
+    }
+    rest_zero(g, r)
+}
+
 // Requested, held and returning bookings have all predecessors held.
-fn all_founded(g: Network, r: Run) -> bool
-    requires { ⌜ g .n ≤ 64 ⌝ }
-    ensures { λ t. ⌜ t ≡ allFounded g r ⌝ }
+fn all_founded(requested: u64, held: u64, returning: u64, ready: u64) -> bool
+    ensures { λ t. ⌜ t ≡ subsetOf (bitOr requested (bitOr held returning)) ready ⌝ }
 {
-    let taken = r.coded(g.n, 1) | (r.coded(g.n, 2) | r.coded(g.n, 4));
-    sets::subset(taken, r.ready(g))
+    sets::subset(requested | (held | returning), ready)
 }
 
-// Lost ones are exposed.
-fn lost_exposed(g: Network, r: Run) -> bool
-    requires { ⌜ g .n ≤ 64 ⌝ }
-    ensures { λ t. ⌜ t ≡ lostExposed g r ⌝ }
+// Returning ones are C and outside the current way.
+fn returning_outside(returning: u64, exposed: u64, firm: u64, here: u64) -> bool
+    ensures { λ t. ⌜ t ≡ subsetOf returning (without (without exposed firm) here) ⌝ }
 {
-    sets::subset(r.coded(g.n, 3), g.exposed)
-}
-
-// Requested ones are in the current way.
-fn requested_inside(g: Network, r: Run) -> bool
-    requires { ⌜ (g .n ≤ 64) × (r .way ≤ 16) ⌝ }
-    ensures { λ t. ⌜ t ≡ requestedInside g r ⌝ }
-{
-    sets::subset(r.coded(g.n, 1), run::way_of(g, r.way as usize))
-}
-
-// Returning ones are C and outside it.
-fn returning_outside(g: Network, r: Run) -> bool
-    requires { ⌜ (g .n ≤ 64) × (r .way ≤ 16) ⌝ }
-    ensures { λ t. ⌜ t ≡ returningOutside g r ⌝ }
-{
-    let returnable = sets::minus(g.exposed, g.firm);
-    let outside = sets::minus(returnable, run::way_of(g, r.way as usize));
-    sets::subset(r.coded(g.n, 4), outside)
+    sets::subset(returning, sets::minus(sets::minus(exposed, firm), here))
 }
 
 // A held booking outside the current way, or a returning one, means none is requested.
-fn quiet(g: Network, r: Run) -> bool
-    requires { ⌜ (g .n ≤ 64) × (r .way ≤ 16) ⌝ }
-    ensures { λ t. ⌜ t ≡ quiet g r ⌝ }
+fn quiet(held: u64, returning: u64, requested: u64, here: u64) -> bool
+    ensures { λ t. ⌜ t ≡ (eqb (bitOr (without held here) returning) 0 || eqb requested 0) ⌝ }
 {
-    let outside = sets::minus(r.coded(g.n, 2), run::way_of(g, r.way as usize));
-    if outside | r.coded(g.n, 4) == 0 {
+    let leaving = sets::minus(held, here) | returning;
+    if leaving == 0 {
         return true;
     }
-    r.coded(g.n, 1) == 0
+    requested == 0
+}
+
+// A lost booking in the current way has its predecessors held, and something is requested.
+fn lost_pending(lost: u64, requested: u64, ready: u64, here: u64) -> bool
+    ensures { λ t. ⌜ t ≡ subsetOf (bitAnd lost here) (cond (eqb requested 0) 0 ready) ⌝ }
+{
+    let gone = lost & here;
+    if requested == 0 {
+        return sets::subset(gone, 0);
+    }
+    sets::subset(gone, ready)
 }
 
 // How many ways stand before way w: all for 0.
@@ -108,60 +115,43 @@ fn earlier_dead(g: Network, r: Run) -> bool
     true
 }
 
-// Held firm bookings are in the current way (none for 0).
-fn firm_inside(g: Network, r: Run) -> bool
-    requires { ⌜ (g .n ≤ 64) × (r .way ≤ 16) ⌝ }
-    ensures { λ t. ⌜ t ≡ firmInside g r ⌝ }
-{
-    sets::subset(r.held_firm(g), run::way_of(g, r.way as usize))
-}
-
-// A lost booking in the current way has its predecessors held, and something is requested.
-fn lost_pending(g: Network, r: Run) -> bool
-    requires { ⌜ (g .n ≤ 64) × (r .way ≤ 16) ⌝ }
-    ensures { λ t. ⌜ t ≡ lostPending g r ⌝ }
-{
-    let gone = r.coded(g.n, 3) & run::way_of(g, r.way as usize);
-    if r.coded(g.n, 1) == 0 {
-        return sets::subset(gone, 0);
-    }
-    sets::subset(gone, r.ready(g))
-}
-
 // Whether the state is sound.
 pub fn is_sound(g: Network, r: Run) -> bool
     requires { ⌜ (g .n ≤ 64) × (g .a ≤ 16) ⌝ }
     ensures { λ t. ⌜ t ≡ sound g r ⌝ }
 {
-    if !codes_known(r) {
+    if !is_formed(g, r) {
         return false;
     }
-    if !way_known(g, r) {
+    let requested = r.coded(g.n, 1);
+    let held = r.coded(g.n, 2);
+    let lost = r.coded(g.n, 3);
+    let returning = r.coded(g.n, 4);
+    let ready = r.ready(g);
+    let here = run::way_of(g, r.way as usize);
+    if !all_founded(requested, held, returning, ready) {
         return false;
     }
-    if !rest_zero(g, r) {
+    // Lost ones are exposed.
+    if !sets::subset(lost, g.exposed) {
         return false;
     }
-    if !all_founded(g, r) {
+    // Requested ones are in the current way.
+    if !sets::subset(requested, here) {
         return false;
     }
-    if !lost_exposed(g, r) {
+    if !returning_outside(returning, g.exposed, g.firm, here) {
         return false;
     }
-    if !requested_inside(g, r) {
-        return false;
-    }
-    if !returning_outside(g, r) {
-        return false;
-    }
-    if !quiet(g, r) {
+    if !quiet(held, returning, requested, here) {
         return false;
     }
     if !earlier_dead(g, r) {
         return false;
     }
-    if !firm_inside(g, r) {
+    // Held firm bookings are in the current way (none for 0).
+    if !sets::subset(held & g.firm, here) {
         return false;
     }
-    lost_pending(g, r)
+    lost_pending(lost, requested, ready, here)
 }

@@ -3,6 +3,7 @@
 use mathlib.Core.Path.{_≡_, sym, ap, _∙_}
 use mathlib.Core.Logic.{inl, inr}
 use mathlib.Core.Bool.{Bool, true, false, not, _&&_}
+use mathlib.Core.List.{List}
 use Prim.Native.Nat.{ℕ, suc, _+_, _≤_, _<_}
 use native.Mathlib.Numerals.{add-one}
 use native.Mathlib.Omega.{arith}
@@ -22,7 +23,7 @@ use Rattle.verdict.specs.declared.Network.{Network}
 use Rattle.verdict.specs.declared.Verdict.the-variants.{Pass, Circular, Unclosed, Unused, Repeated, Stranding}
 use Rattle.verdict.specs.Network.{wayOf, inWay, before, pre, exposed, some}
 use Rattle.verdict.specs.Check.{circular, gap, unclosed, usedBy, unused, sameWay, repeated, staying, laterRefuge, stranding, strands, check}
-use Rattle.verdict.specs.Parts.{circularIn, gapIn, unclosedIn, sameIn, repeatedIn, usedIn, usedBelow, staysIn, leadsAll, sheltersAfter}
+use Rattle.verdict.specs.Parts.{circularIn, gapIn, unclosedIn, sameIn, repeatedIn, usedIn, usedBelow, beyondOf, leadsAll, sheltersAfter}
 use Rattle.verdict.proofs.Parts.{staying-same, refuges-same}
 
 -- ---- one way and one booking
@@ -36,24 +37,28 @@ module _ (g : Network) (k x : ℕ) where
   unfolding stranding
   not-exposed b e n = sym (and-no-l (exposed g x && inWay g (suc k) x) _ (sym exposed-same ∙ sym e ∙ not-t b n))
 
-  pub nothing-stays : (s : ℕ) → s ≡ gather (staysIn (bitAnd (g .firm) (getD (g .way) k 0)) (g .before) x) (g .n) → s ≡ 0 → false ≡ stranding g (suc k) x
-  unfolding stranding some
-  nothing-stays s e z =
-      sym (and-no-r (exposed g x && inWay g (suc k) x) _ (and-no-l (not (eqb (staying g (suc k) x) 0)) _
-      (ap not (eq-eqb (staying g (suc k) x) 0 (sym (e ∙ staying-same g k x) ∙ z)))))
+  -- S as the code finds it, by what is beyond x
+  module _ (small : g .n ≤ 64) (h : x < 64) (bs : List ℕ) (eb : bs ≡ beyondOf (g .before) (g .n)) (t : ℕ) (et : t ≡ allBelow (g .n))
+      (s : ℕ) (es : s ≡ without (bitAnd t (bitAnd (g .firm) (getD (g .way) k 0))) (getD bs x 0)) where
+    in-s : s ≡ staying g (suc k) x
+    in-s = rw (eb, et) at es ∙ staying-same g small k x h
 
-  pub sheltered : (b : Bool) → b ≡ member (bitAnd (g .exposed) (getD (g .way) k 0)) x → not b ≡ false
-      → (s : ℕ) → s ≡ gather (staysIn (bitAnd (g .firm) (getD (g .way) k 0)) (g .before) x) (g .n) → (s ≡ 0 → ⊥)
-      → (l : ℕ) → l ≡ gather (leadsAll s (g .before) (g .n)) 64
-      → (r : Bool) → r ≡ any (sheltersAfter s (bitOr (getD (g .before) x 0) l) (g .exposed) (g .way) (k + 1)) (g .a)
-      → not r ≡ stranding g (suc k) x
-  unfolding stranding some
-  sheltered b eb nb s es ns l el r er =
-      let q : s ≡ staying g (suc k) x = es ∙ staying-same g k x in
-      let last : r ≡ any (laterRefuge g (suc k) x) (g .a) = rw (el, q, add-one) at er ∙ refuges-same g k x in
-      ap not last
-      ∙ and-go (not (eqb (staying g (suc k) x) 0)) _ (ap not (ne-eqb (staying g (suc k) x) 0 (λ z. ns (q ∙ z))))
-      ∙ and-go (exposed g x && inWay g (suc k) x) _ (sym exposed-same ∙ sym eb ∙ not-f b nb)
+    pub nothing-stays : s ≡ 0 → false ≡ stranding g (suc k) x
+    unfolding stranding some
+    nothing-stays z =
+        sym (and-no-r (exposed g x && inWay g (suc k) x) _ (and-no-l (not (eqb (staying g (suc k) x) 0)) _
+        (ap not (eq-eqb (staying g (suc k) x) 0 (sym in-s ∙ z)))))
+
+    pub sheltered : (b : Bool) → b ≡ member (bitAnd (g .exposed) (getD (g .way) k 0)) x → not b ≡ false → (s ≡ 0 → ⊥)
+        → (l : ℕ) → l ≡ gather (leadsAll bs s) 64
+        → (r : Bool) → r ≡ any (sheltersAfter s (bitOr (getD (g .before) x 0) l) (g .exposed) (g .way) (k + 1)) (g .a)
+        → not r ≡ stranding g (suc k) x
+    unfolding stranding some
+    sheltered b e nb ns l el r er =
+        let last : r ≡ any (laterRefuge g (suc k) x) (g .a) = rw (el, eb, in-s, add-one) at er ∙ refuges-same g small k x h in
+        ap not last
+        ∙ and-go (not (eqb (staying g (suc k) x) 0)) _ (ap not (ne-eqb (staying g (suc k) x) 0 (λ z. ns (in-s ∙ z))))
+        ∙ and-go (exposed g x && inWay g (suc k) x) _ (sym exposed-same ∙ sym e ∙ not-f b nb)
 
 -- some number below n passes where the first that passes is below n
 any-first : (f : ℕ → Bool) (n : ℕ) → ltb (first f n) n ≡ any f n

@@ -7,7 +7,7 @@ use Prim.Native.Nat.{ℕ, suc}
 use lib.Dec.{eqb, ltb}
 use lib.Bits.{bitAnd}
 use lib.ListN.{getD}
-use Rattle.bounded.specs.Bounded.{imp, any, all}
+use Rattle.bounded.specs.Bounded.{any, table}
 use Rattle.sets.specs.Sets.{member, gather, subsetOf}
 use Rattle.verdict.specs.declared.Network.{Network}
 
@@ -37,17 +37,20 @@ repeatedIn ws k = any (sameIn ws k) k
 unfoldable pub unclosedIn : List ℕ → List ℕ → ℕ → ℕ → Bool
 unclosedIn p ws n k = any (gapIn p (getD ws k 0)) n
 
--- s is in the set f of a way's firm bookings, is not x, and x does not precede it
-unfoldable pub staysIn : ℕ → List ℕ → ℕ → ℕ → Bool
-staysIn f p x s = member f s && (not (eqb s x) && not (member (getD p s 0) x))
+-- s is x, or x precedes it
+unfoldable pub beyondIn : List ℕ → ℕ → ℕ → Bool
+beyondIn p x s = eqb x s || member (getD p s 0) x
 
--- y equals or precedes i, if i is in s
-unfoldable pub leadsIn : ℕ → List ℕ → ℕ → ℕ → Bool
-leadsIn s p y i = imp (member s i) (eqb y i || member (getD p i 0) y)
+-- the bookings below n that are x or that x precedes; these sets for every x
+unfoldable pub beyondAt : List ℕ → ℕ → ℕ → ℕ
+beyondAt p n x = gather (beyondIn p x) n
 
--- y equals or precedes every member of s below n
-unfoldable pub leadsAll : ℕ → List ℕ → ℕ → ℕ → Bool
-leadsAll s p n y = all (leadsIn s p y) n
+unfoldable pub beyondOf : List ℕ → ℕ → List ℕ
+beyondOf p n = table (beyondAt p n) 64
+
+-- y equals or precedes every member of s, by what is beyond each booking
+unfoldable pub leadsAll : List ℕ → ℕ → ℕ → Bool
+leadsAll bs s y = subsetOf s (getD bs y 0)
 
 -- the way has all of s, and its exposed bookings are in the set ok
 unfoldable pub shelters : ℕ → ℕ → ℕ → ℕ → Bool

@@ -7,7 +7,7 @@ ghost use lib.Dec.{eqb};
 ghost use Rattle.bounded.specs.Bounded.{any, first};
 ghost use Rattle.sets.specs.Sets.{member, gather, subsetOf};
 ghost use Rattle.verdict.specs.FromPlan.{ofKind, directOf, networkOf, Ends};
-ghost use Rattle.verdict.specs.Parts.{circularIn, gapIn, unclosedIn, usedBelow, repeatedIn, staysIn, leadsAll, shelters, sheltersAfter, net};
+ghost use Rattle.verdict.specs.Parts.{circularIn, gapIn, unclosedIn, usedBelow, repeatedIn, beyondAt, beyondOf, leadsAll, shelters, sheltersAfter, net};
 ghost use Rattle.verdict.specs.Check.{stranding, strands, check};
 
 // A plan as the rules see it. Booking number b is index b - 1 and bit b - 1 of every set; way[k] is way number k + 1.
@@ -180,43 +180,51 @@ fn first_repeated(way: &[u64; 16], a: usize) -> usize
     a
 }
 
-// Whether s is in the set of firm bookings, is not x, and x does not precede it.
-fn is_staying(firm: u64, pred: u64, x: usize, s: usize) -> bool
-    requires { ⌜ (x < 64) × (s < 64) ⌝ }
-    ensures { λ r. ⌜ r ≡ (member firm s && (not (eqb s x) && not (member pred x))) ⌝ }
+// Whether s is x, or x precedes it.
+fn is_beyond(pred: u64, x: usize, s: usize) -> bool
+    requires { ⌜ x < 64 ⌝ }
+    ensures { λ r. ⌜ r ≡ (eqb x s || member pred x) ⌝ }
 {
-    if sets::has(firm, s) {
-        if s == x {
-            return false;
-        }
-        return !sets::has(pred, x);
+    if x == s {
+        return true;
     }
-    false
+    sets::has(pred, x)
 }
 
-// S: the firm bookings of a way other than x that x does not precede.
-fn staying(firm: u64, before: &[u64; 64], n: usize, x: usize) -> u64
+// The bookings below n that are x or that x precedes.
+fn beyond(before: &[u64; 64], n: usize, x: usize) -> u64
     requires { ⌜ (n ≤ 64) × (x < 64) ⌝ }
-    ensures { λ r. ⌜ r ≡ gather (staysIn firm (now (before .entry)) x) n ⌝ }
+    ensures { λ r. ⌜ r ≡ beyondAt (now (before .entry)) n x ⌝ }
 {
     let mut r: u64 = 0;
     for s in 0..n {
-        if is_staying(firm, before[s], x, s) {
+        if is_beyond(before[s], x, s) {
             r = r | sets::bit(s);
         }
     }
     r
 }
 
-// The bookings that equal or precede every member of s below n.
-fn leading(s: u64, before: &[u64; 64], n: usize) -> u64
+// These sets for every x, found once for all ways.
+fn all_beyond(before: &[u64; 64], n: usize) -> [u64; 64]
     requires { ⌜ n ≤ 64 ⌝ }
-    ensures { λ r. ⌜ r ≡ gather (leadsAll s (now (before .entry)) n) 64 ⌝ }
+    ensures { λ r. ⌜ r ≡ beyondOf (now (before .entry)) n ⌝ }
 {
-    let mut r = sets::all_below(64);
-    for i in 0..n {
-        if sets::has(s, i) {
-            r = r & sets::with(before[i], i);
+    let mut r = [0u64; 64];
+    for x in 0..64 {
+        r[x] = beyond(before, n, x);
+    }
+    r
+}
+
+// The bookings y that equal or precede every member of s: s is all beyond y.
+fn leading(s: u64, beyond: &[u64; 64]) -> u64
+    ensures { λ r. ⌜ r ≡ gather (leadsAll (now (beyond .entry)) s) 64 ⌝ }
+{
+    let mut r: u64 = 0;
+    for y in 0..64 {
+        if sets::subset(s, beyond[y]) {
+            r = r | sets::bit(y);
         }
     }
     r
@@ -248,6 +256,7 @@ fn is_sheltered(s: u64, ok: u64, exposed: u64, way: &[u64; 16], w: usize, a: usi
 // 8: whether x is an exposed booking of way k + 1 that leaves something firm behind with no later way to go to.
 fn is_stranding(
     before: &[u64; 64],
+    beyond: &[u64; 64],
     way: &[u64; 16],
     firm: u64,
     exposed: u64,
@@ -256,24 +265,25 @@ fn is_stranding(
     k: usize,
     x: usize,
 ) -> bool
-    requires { ⌜ (n ≤ 64) × (a ≤ 16) × (k < a) × (x < 64) ⌝ }
+    requires { ⌜ (now beyond ≡ beyondOf (now before) n) × (n ≤ 64) × (a ≤ 16) × (k < a) × (x < 64) ⌝ }
     ensures { λ r. ⌜ r ≡ stranding (net n a (now (way .entry)) (now (before .entry)) firm exposed) (suc k) x ⌝ }
 {
     let here = way[k];
     if !sets::has(exposed & here, x) {
         return false;
     }
-    let stay = staying(firm & here, before, n, x);
+    let stay = sets::minus(sets::all_below(n) & (firm & here), beyond[x]);
     if stay == 0 {
         return false;
     }
-    let ok = before[x] | leading(stay, before, n);
+    let ok = before[x] | leading(stay, beyond);
     !is_sheltered(stay, ok, exposed, way, k + 1, a)
 }
 
 // The lowest stranding booking of way k + 1, or n.
 fn first_stranding(
     before: &[u64; 64],
+    beyond: &[u64; 64],
     way: &[u64; 16],
     firm: u64,
     exposed: u64,
@@ -281,11 +291,11 @@ fn first_stranding(
     a: usize,
     k: usize,
 ) -> usize
-    requires { ⌜ (n ≤ 64) × (a ≤ 16) × (k < a) ⌝ }
+    requires { ⌜ (now beyond ≡ beyondOf (now before) n) × (n ≤ 64) × (a ≤ 16) × (k < a) ⌝ }
     ensures { λ r. ⌜ r ≡ first (stranding (net n a (now (way .entry)) (now (before .entry)) firm exposed) (suc k)) n ⌝ }
 {
     for x in 0..n {
-        if is_stranding(before, way, firm, exposed, n, a, k, x) {
+        if is_stranding(before, beyond, way, firm, exposed, n, a, k, x) {
             return x;
         }
     }
@@ -295,6 +305,7 @@ fn first_stranding(
 // Whether some booking of way k + 1 strands.
 fn strands(
     before: &[u64; 64],
+    beyond: &[u64; 64],
     way: &[u64; 16],
     firm: u64,
     exposed: u64,
@@ -302,26 +313,27 @@ fn strands(
     a: usize,
     k: usize,
 ) -> bool
-    requires { ⌜ (n ≤ 64) × (a ≤ 16) × (k < a) ⌝ }
+    requires { ⌜ (now beyond ≡ beyondOf (now before) n) × (n ≤ 64) × (a ≤ 16) × (k < a) ⌝ }
     ensures { λ r. ⌜ r ≡ strands (net n a (now (way .entry)) (now (before .entry)) firm exposed) k ⌝ }
 {
-    first_stranding(before, way, firm, exposed, n, a, k) < n
+    first_stranding(before, beyond, way, firm, exposed, n, a, k) < n
 }
 
 // The first way, by index, in which some booking strands, or a.
 fn first_strands(
     before: &[u64; 64],
+    beyond: &[u64; 64],
     way: &[u64; 16],
     firm: u64,
     exposed: u64,
     n: usize,
     a: usize,
 ) -> usize
-    requires { ⌜ (n ≤ 64) × (a ≤ 16) ⌝ }
+    requires { ⌜ (now beyond ≡ beyondOf (now before) n) × (n ≤ 64) × (a ≤ 16) ⌝ }
     ensures { λ r. ⌜ r ≡ first (strands (net n a (now (way .entry)) (now (before .entry)) firm exposed)) a ⌝ }
 {
     for k in 0..a {
-        if strands(before, way, firm, exposed, n, a, k) {
+        if strands(before, beyond, way, firm, exposed, n, a, k) {
             return k;
         }
     }
@@ -353,9 +365,10 @@ pub fn check(g: Network) -> Verdict
     if k7 < a {
         return Verdict::Repeated(k7 + 1);
     }
-    let k8 = first_strands(&before, &way, g.firm, g.exposed, n, a);
+    let beyond = all_beyond(&before, n);
+    let k8 = first_strands(&before, &beyond, &way, g.firm, g.exposed, n, a);
     if k8 < a {
-        let b8 = first_stranding(&before, &way, g.firm, g.exposed, n, a, k8);
+        let b8 = first_stranding(&before, &beyond, &way, g.firm, g.exposed, n, a, k8);
         return Verdict::Stranding(k8 + 1, b8);
     }
     Verdict::Pass

@@ -3,17 +3,21 @@ use Rattle.verdict.specs.Parts.{net}
 use Prim.Native.Nat.{suc, _≤_, _-_}
 use Rattle.bounded.proofs.Loops.{So-far, so-far-none, so-far-call, first-call, first-over}
 use native.Mathlib.Omega.{arith}
+use borrow.Author.Needs.{needs}
 use Rattle.verdict.proofs.first_stranding.Statement.{statement}
 use Rattle.verdict.proofs.first_stranding.Tie as tie
 
 abbrev Inv-loop : tie.InvT-loop
-Inv-loop before way firm exposed n a k x₀ x = (x ≤ n) × So-far (stranding (net n a way before firm exposed) (suc k)) x
+Inv-loop before beyond way firm exposed n a k x₀ x = (x ≤ n) × So-far (stranding (net n a way before firm exposed) (suc k)) x
 
 abbrev μ-loop : tie.MeasureT-loop
-μ-loop before way firm exposed n a k x₀ x = n - x
+μ-loop before beyond way firm exposed n a k x₀ x = n - x
 
 loop-holds : tie.Need-loop-holds Inv-loop μ-loop
 loop-holds c = (omega arith, so-far-none _)
+
+is-stranding-requires : tie.Need-is-stranding-requires Inv-loop μ-loop
+is-stranding-requires c κs = (search needs, omega arith, omega arith, omega arith, omega arith)
 
 returns : tie.Need-returns Inv-loop μ-loop
 returns c = first-call _ _ _ (c .before .before .before .loop .inv .1) (omega arith) _ (c .before .is-stranding .ensures) (c .if1 .taken)
@@ -31,7 +35,7 @@ first-stranding-spec =
     Inv-loop
     μ-loop
     loop-holds
-    (omega arith)
+    is-stranding-requires
     returns
     (omega arith)
     (omega arith)

@@ -3,17 +3,21 @@ use Rattle.verdict.specs.Parts.{net}
 use Prim.Native.Nat.{_≤_, _-_}
 use Rattle.bounded.proofs.Loops.{So-far, so-far-none, so-far-call, first-call, first-over}
 use native.Mathlib.Omega.{arith}
+use borrow.Author.Needs.{needs}
 use Rattle.verdict.proofs.first_strands.Statement.{statement}
 use Rattle.verdict.proofs.first_strands.Tie as tie
 
 abbrev Inv-loop : tie.InvT-loop
-Inv-loop before way firm exposed n a k₀ k = (k ≤ a) × So-far (strands (net n a way before firm exposed)) k
+Inv-loop before beyond way firm exposed n a k₀ k = (k ≤ a) × So-far (strands (net n a way before firm exposed)) k
 
 abbrev μ-loop : tie.MeasureT-loop
-μ-loop before way firm exposed n a k₀ k = a - k
+μ-loop before beyond way firm exposed n a k₀ k = a - k
 
 loop-holds : tie.Need-loop-holds Inv-loop μ-loop
 loop-holds c = (omega arith, so-far-none _)
+
+strands-requires : tie.Need-strands-requires Inv-loop μ-loop
+strands-requires c κs = (search needs, omega arith, omega arith, omega arith)
 
 returns : tie.Need-returns Inv-loop μ-loop
 returns c = first-call _ _ _ (c .before .before .before .loop .inv .1) (omega arith) _ (c .before .strands .ensures) (c .if1 .taken)
@@ -31,7 +35,7 @@ first-strands-spec =
     Inv-loop
     μ-loop
     loop-holds
-    (omega arith)
+    strands-requires
     returns
     (omega arith)
     (omega arith)
