@@ -1,0 +1,144 @@
+//! Compares the real static library with the second version.
+
+use second::comparison::{Campaign, Comparison, Outcome};
+use std::process::ExitCode;
+use std::time::{Duration, Instant};
+
+/// The real library's calls, as its header gives them.
+mod library {
+    #[link(name = "campaign", kind = "static")]
+    extern "C" {
+        pub fn campaign_check(sheet: *const u8, sheet_len: usize) -> u32;
+        #[cfg(feature = "run")]
+        pub fn campaign_start(sheet: *const u8, sheet_len: usize, state: *mut u8, state_len: usize) -> u32;
+        #[cfg(feature = "run")]
+        pub fn campaign_next_order(
+            sheet: *const u8,
+            sheet_len: usize,
+            state: *mut u8,
+            state_len: usize,
+        ) -> u32;
+        #[cfg(feature = "run")]
+        pub fn campaign_reply(
+            sheet: *const u8,
+            sheet_len: usize,
+            state: *mut u8,
+            state_len: usize,
+            letter: u8,
+            booking: u32,
+        ) -> u32;
+    }
+}
+
+struct Real;
+
+// Safety of each call: the pointers and lengths are those of live slices.
+#[cfg(feature = "run")]
+impl Campaign for Real {
+    fn check(&self, sheet: &[u8]) -> u32 {
+        unsafe { library::campaign_check(sheet.as_ptr(), sheet.len()) }
+    }
+
+    fn start(&self, sheet: &[u8], state: &mut [u8]) -> u32 {
+        unsafe { library::campaign_start(sheet.as_ptr(), sheet.len(), state.as_mut_ptr(), state.len()) }
+    }
+
+    fn next_order(&self, sheet: &[u8], state: &mut [u8]) -> u32 {
+        unsafe { library::campaign_next_order(sheet.as_ptr(), sheet.len(), state.as_mut_ptr(), state.len()) }
+    }
+
+    fn reply(&self, sheet: &[u8], state: &mut [u8], letter: u8, booking: u32) -> u32 {
+        let (start, length) = (state.as_mut_ptr(), state.len());
+        unsafe { library::campaign_reply(sheet.as_ptr(), sheet.len(), start, length, letter, booking) }
+    }
+}
+
+// A library with check alone: the other calls are never made.
+#[cfg(not(feature = "run"))]
+impl Campaign for Real {
+    fn check(&self, sheet: &[u8]) -> u32 {
+        unsafe { library::campaign_check(sheet.as_ptr(), sheet.len()) }
+    }
+
+    fn start(&self, _: &[u8], _: &mut [u8]) -> u32 {
+        unreachable!()
+    }
+
+    fn next_order(&self, _: &[u8], _: &mut [u8]) -> u32 {
+        unreachable!()
+    }
+
+    fn reply(&self, _: &[u8], _: &mut [u8], _: u8, _: u32) -> u32 {
+        unreachable!()
+    }
+}
+
+struct Options {
+    seed: u64,
+    first_round: u64,
+    rounds: Option<u64>,
+    seconds: Option<u64>,
+    check_only: bool,
+}
+
+const USAGE: &str = "usage: compare [--check-only] [--seconds N] [--rounds N] [--seed N] [--from-round N]";
+
+fn options() -> Option<Options> {
+    let check_only = !cfg!(feature = "run");
+    let mut options = Options { seed: 1, first_round: 0, rounds: None, seconds: None, check_only };
+    let mut words = std::env::args().skip(1);
+    while let Some(word) = words.next() {
+        if word == "--check-only" {
+            options.check_only = true;
+            continue;
+        }
+        let number: u64 = words.next()?.parse().ok()?;
+        match word.as_str() {
+            "--seconds" => options.seconds = Some(number),
+            "--rounds" => options.rounds = Some(number),
+            "--seed" => options.seed = number,
+            "--from-round" => options.first_round = number,
+            _ => return None,
+        }
+    }
+    if options.rounds.is_none() && options.seconds.is_none() {
+        options.seconds = Some(40);
+    }
+    Some(options)
+}
+
+/// The fixed part, then rounds until their number or the time is used up.
+fn compare(comparison: &mut Comparison, options: &Options) -> Outcome<u64> {
+    let began = Instant::now();
+    comparison.fixed_part(options.seed)?;
+    let fixed = began.elapsed();
+    println!("fixed part: {:.1} s", fixed.as_secs_f64());
+    let time = options.seconds.map(Duration::from_secs);
+    let mut made = 0;
+    while options.rounds.is_none_or(|most| made < most) && time.is_none_or(|most| began.elapsed() < most) {
+        comparison.round(options.seed, options.first_round + made)?;
+        made += 1;
+    }
+    Ok(made)
+}
+
+fn main() -> ExitCode {
+    let Some(options) = options() else {
+        eprintln!("{USAGE}");
+        return ExitCode::from(2);
+    };
+    println!("seed {}, rounds from {}", options.seed, options.first_round);
+    let mut comparison = Comparison::new(&Real, options.check_only);
+    let outcome = compare(&mut comparison, &options);
+    match &outcome {
+        Ok(rounds) => print!("rounds: {rounds}\n{}", comparison.tally),
+        Err(difference) => print!("{difference}"),
+    }
+    match outcome {
+        Ok(_) => {
+            println!("no difference");
+            ExitCode::SUCCESS
+        }
+        Err(_) => ExitCode::FAILURE,
+    }
+}

@@ -1,0 +1,142 @@
+//! The four calls on bytes, each answered with 32 bits:
+//! kind × 16,777,216 + refusal × 65,536 + place.
+
+use crate::check::{self, Network};
+use crate::plan::{self, Refusal};
+use crate::run::{self, Order, State};
+
+pub const REFUSED: u32 = 0;
+pub const REQUEST: u32 = 1;
+pub const RETURN: u32 = 2;
+pub const WAIT: u32 = 3;
+pub const FLOWN: u32 = 4;
+pub const CALLED_OFF: u32 = 5;
+pub const ACCEPTED: u32 = 6;
+
+const HIGHEST_BOOKING: u32 = 64;
+
+/// What a sheet comes to: a network to run, or a refusal among 1 to 8.
+pub type Judged = Result<Network, Refusal>;
+
+pub fn judge(sheet: &[u8]) -> Judged {
+    check::check(plan::read(sheet)?)
+}
+
+pub fn pack(kind: u32, refusal: u32, place: u32) -> u32 {
+    kind * 16_777_216 + refusal * 65_536 + place
+}
+
+pub fn kind_of(answer: u32) -> u32 {
+    answer / 16_777_216
+}
+
+pub fn refusal_of(answer: u32) -> u32 {
+    answer / 65_536 % 256
+}
+
+pub fn place_of(answer: u32) -> u32 {
+    answer % 65_536
+}
+
+fn refused(refusal: Refusal) -> u32 {
+    pack(REFUSED, refusal.number, refusal.place)
+}
+
+fn unsound() -> Refusal {
+    Refusal { number: 11, place: 0 }
+}
+
+fn misfit(booking: u32) -> Refusal {
+    let place = if booking <= HIGHEST_BOOKING { booking } else { 0 };
+    Refusal { number: 9, place }
+}
+
+fn state_of(bytes: &[u8]) -> Result<State, Refusal> {
+    bytes.try_into().map_err(|_| unsound())
+}
+
+fn sound_state(network: &Network, bytes: &[u8]) -> Result<State, Refusal> {
+    let state = state_of(bytes)?;
+    if run::is_sound(network, &state) {
+        Ok(state)
+    } else {
+        Err(unsound())
+    }
+}
+
+fn order_answer(order: Order) -> u32 {
+    match order {
+        Order::Request(booking) => pack(REQUEST, 0, booking as u32),
+        Order::Return(booking) => pack(RETURN, 0, booking as u32),
+        Order::Wait => pack(WAIT, 0, 0),
+        Order::Flown(way) => pack(FLOWN, 0, way as u32),
+        Order::CalledOff => pack(CALLED_OFF, 0, 0),
+    }
+}
+
+/// The answer, with the state written back only if nothing was refused.
+fn write_back(step: Result<(u32, State), Refusal>, bytes: &mut [u8]) -> u32 {
+    match step {
+        Ok((answer, state)) => {
+            bytes.copy_from_slice(&state);
+            answer
+        }
+        Err(refusal) => refused(refusal),
+    }
+}
+
+// The calls on a sheet already judged, for many calls with one sheet.
+
+pub fn check_judged(judged: &Judged) -> u32 {
+    match judged {
+        Ok(_) => pack(ACCEPTED, 0, 0),
+        Err(refusal) => refused(*refusal),
+    }
+}
+
+pub fn start_judged(judged: &Judged, bytes: &mut [u8]) -> u32 {
+    let step = || {
+        judged.as_ref().map_err(|r| *r)?;
+        state_of(bytes)?;
+        Ok((pack(ACCEPTED, 0, 0), run::start()))
+    };
+    write_back(step(), bytes)
+}
+
+pub fn next_order_judged(judged: &Judged, bytes: &mut [u8]) -> u32 {
+    let step = || {
+        let network = judged.as_ref().map_err(|r| *r)?;
+        let state = sound_state(network, bytes)?;
+        let (order, after) = run::next_order(network, state);
+        Ok((order_answer(order), after))
+    };
+    write_back(step(), bytes)
+}
+
+pub fn reply_judged(judged: &Judged, bytes: &mut [u8], letter: u8, booking: u32) -> u32 {
+    let step = || {
+        let network = judged.as_ref().map_err(|r| *r)?;
+        let state = sound_state(network, bytes)?;
+        let after = run::reply(network, state, letter, booking as usize);
+        Ok((pack(ACCEPTED, 0, booking % 65_536), after.ok_or(misfit(booking))?))
+    };
+    write_back(step(), bytes)
+}
+
+// The calls as the dispatcher makes them.
+
+pub fn check(sheet: &[u8]) -> u32 {
+    check_judged(&judge(sheet))
+}
+
+pub fn start(sheet: &[u8], state: &mut [u8]) -> u32 {
+    start_judged(&judge(sheet), state)
+}
+
+pub fn next_order(sheet: &[u8], state: &mut [u8]) -> u32 {
+    next_order_judged(&judge(sheet), state)
+}
+
+pub fn reply(sheet: &[u8], state: &mut [u8], letter: u8, booking: u32) -> u32 {
+    reply_judged(&judge(sheet), state, letter, booking)
+}

@@ -1,0 +1,200 @@
+//! The comparison of a first version of the four calls with this one: the
+//! same 32 bits, the same bytes of state, and no other byte changed.
+
+mod ledger;
+mod lent;
+pub mod sheets;
+mod tally;
+pub mod walks;
+
+use crate::calls::{self, Judged};
+use crate::check::Network;
+use crate::dice::Dice;
+use crate::generate::{self, LIMITS, MIDDLE, SMALL};
+use crate::plan;
+use lent::Lent;
+use tally::Tally;
+
+/// The calls of the version under test.
+pub trait Campaign {
+    fn check(&self, sheet: &[u8]) -> u32;
+    fn start(&self, sheet: &[u8], state: &mut [u8]) -> u32;
+    fn next_order(&self, sheet: &[u8], state: &mut [u8]) -> u32;
+    fn reply(&self, sheet: &[u8], state: &mut [u8], letter: u8, booking: u32) -> u32;
+}
+
+/// Nothing to say, or what differs.
+pub type Outcome<T = ()> = Result<T, String>;
+
+#[derive(Clone, Copy, Debug, PartialEq, Eq)]
+pub enum Call {
+    Check,
+    Start,
+    NextOrder,
+    Reply(u8, u32),
+}
+
+/// A sheet to compare with, and what the second version makes of it.
+pub struct Case {
+    sheet: Lent,
+    judged: Judged,
+}
+
+impl Case {
+    pub fn new(sheet: &[u8]) -> Case {
+        // Behind the sheet stands what could be taken for more of it.
+        Case::with_rest(sheet, b"A   1   1\nA   1   1\n")
+    }
+
+    /// A sheet with bytes behind it that are not lent.
+    pub fn with_rest(sheet: &[u8], rest: &[u8]) -> Case {
+        Case { sheet: Lent::with_rest(sheet, rest), judged: calls::judge(sheet) }
+    }
+
+    pub fn network(&self) -> Option<&Network> {
+        self.judged.as_ref().ok()
+    }
+}
+
+pub struct Comparison<'a> {
+    first: &'a dyn Campaign,
+    check_only: bool,
+    pub tally: Tally,
+    /// What is being compared, for the report.
+    pub part: String,
+    /// The calls since the last check or start.
+    history: Vec<(Call, u32)>,
+}
+
+impl<'a> Comparison<'a> {
+    pub fn new(first: &'a dyn Campaign, check_only: bool) -> Comparison<'a> {
+        let (tally, part, history) = (Tally::default(), String::new(), Vec::new());
+        Comparison { first, check_only, tally, part, history }
+    }
+
+    /// Makes one call with both versions. Gives the answer of the first and
+    /// leaves in `state` what both wrote.
+    fn call(&mut self, case: &Case, state: &mut Vec<u8>, call: Call) -> Outcome<u32> {
+        let mut expected_state = state.clone();
+        let expected = second_answer(&case.judged, &mut expected_state, call);
+        let mut lent = Lent::new(state);
+        let answer = self.first_answer(case.sheet.bytes(), lent.bytes_mut(), call);
+        self.tally.note(call, answer);
+        if call == Call::Check || call == Call::Start {
+            self.history.clear();
+        }
+        self.history.push((call, answer));
+        let whole = lent.guards_are_whole() && case.sheet.is_whole();
+        if answer == expected && lent.bytes() == expected_state && whole {
+            *state = expected_state;
+            return Ok(answer);
+        }
+        let mut told = format!(
+            "first version: {}\nstate after:   {}\n",
+            shown_answer(answer),
+            shown_state(lent.bytes())
+        );
+        told += &format!(
+            "second version: {}\nstate after:    {}\n",
+            shown_answer(expected),
+            shown_state(&expected_state)
+        );
+        if !whole {
+            told += "a byte that was not lent, or of the sheet, has changed\n";
+        }
+        Err(self.report(case, state, &told))
+    }
+
+    fn first_answer(&self, sheet: &[u8], state: &mut [u8], call: Call) -> u32 {
+        match call {
+            Call::Check => self.first.check(sheet),
+            Call::Start => self.first.start(sheet, state),
+            Call::NextOrder => self.first.next_order(sheet, state),
+            Call::Reply(letter, booking) => self.first.reply(sheet, state, letter, booking),
+        }
+    }
+
+    /// What to print when something differs.
+    fn report(&self, case: &Case, state: &[u8], told: &str) -> String {
+        let sheet = case.sheet.bytes();
+        let mut text = format!("DIFFERENCE in {}\nsheet of {} bytes:\n", self.part, sheet.len());
+        for line in sheet.split_inclusive(|&byte| byte == b'\n') {
+            text += &format!("  {}\n", line.escape_ascii());
+        }
+        text += &format!("state before:  {}\n", shown_state(state));
+        let recent = self.history.len().saturating_sub(60);
+        text += "calls since check or start, the last one being the call in question:\n";
+        for (call, answer) in &self.history[recent..] {
+            text += &format!("  {}: {}\n", shown_call(*call), shown_answer(*answer));
+        }
+        text + told
+    }
+
+    /// Check alone, and the other calls once if the sheet is refused.
+    pub fn compare_sheet(&mut self, case: &Case, dice: &mut Dice) -> Outcome {
+        self.call(case, &mut Vec::new(), Call::Check)?;
+        if self.check_only {
+            return Ok(());
+        }
+        let mut state: Vec<u8> = (0..65).map(|_| dice.below(5) as u8).collect();
+        self.call(case, &mut state, Call::NextOrder)?;
+        self.call(case, &mut state, Call::Reply(dice.pick(b"YNGK"), dice.below(70) as u32))?;
+        self.call(case, &mut state, Call::Start)?;
+        self.call(case, &mut state, Call::NextOrder)?;
+        self.call(case, &mut state, Call::Reply(b'Y', 1))?;
+        Ok(())
+    }
+
+    /// One random plan with its campaigns and some damaged copies.
+    pub fn round(&mut self, seed: u64, round: u64) -> Outcome {
+        self.part = format!("round {round} of seed {seed}");
+        let mut dice = Dice::for_round(seed, round);
+        let size = match round % 16 {
+            15 => LIMITS,
+            3 | 7 | 11 => MIDDLE,
+            _ => SMALL,
+        };
+        let sheet = plan::write(&generate::random_plan(&mut dice, size)).into_bytes();
+        let case = Case::new(&sheet);
+        self.tally.note_sheet(case.network());
+        self.compare_sheet(&case, &mut dice)?;
+        if case.network().is_some() && !self.check_only {
+            for _ in 0..3 {
+                self.campaign(&case, &mut dice)?;
+            }
+        }
+        for _ in 0..4 {
+            let spoiled = Case::new(&generate::spoil_sheet(&mut dice, &sheet));
+            self.compare_sheet(&spoiled, &mut dice)?;
+        }
+        Ok(())
+    }
+}
+
+fn second_answer(judged: &Judged, state: &mut [u8], call: Call) -> u32 {
+    match call {
+        Call::Check => calls::check_judged(judged),
+        Call::Start => calls::start_judged(judged, state),
+        Call::NextOrder => calls::next_order_judged(judged, state),
+        Call::Reply(letter, booking) => calls::reply_judged(judged, state, letter, booking),
+    }
+}
+
+fn shown_call(call: Call) -> String {
+    match call {
+        Call::Check => "check".to_string(),
+        Call::Start => "start".to_string(),
+        Call::NextOrder => "next order".to_string(),
+        Call::Reply(letter, booking) => format!("reply {} {booking}", letter.escape_ascii()),
+    }
+}
+
+fn shown_answer(answer: u32) -> String {
+    let (kind, refusal, place) = (calls::kind_of(answer), calls::refusal_of(answer), calls::place_of(answer));
+    format!("kind {kind}, refusal {refusal}, place {place} ({answer:#010x})")
+}
+
+fn shown_state(state: &[u8]) -> String {
+    let codes: Vec<String> = state.iter().map(|byte| byte.to_string()).collect();
+    format!("{} bytes: {}", state.len(), codes.join(" "))
+}

@@ -1,0 +1,88 @@
+//! Counts of what was compared.
+
+use super::Call;
+use crate::calls::{kind_of, refusal_of};
+use crate::check::Network;
+use std::collections::BTreeMap;
+use std::fmt;
+
+#[derive(Default)]
+pub struct Tally {
+    calls: BTreeMap<&'static str, u64>,
+    kinds: BTreeMap<u32, u64>,
+    refusals: BTreeMap<u32, u64>,
+    sentences: BTreeMap<&'static str, u64>,
+    events: BTreeMap<&'static str, u64>,
+}
+
+impl Tally {
+    pub fn note(&mut self, call: Call, answer: u32) {
+        let name = match call {
+            Call::Check => "check",
+            Call::Start => "start",
+            Call::NextOrder => "next order",
+            Call::Reply(..) => "reply",
+        };
+        *self.calls.entry(name).or_default() += 1;
+        *self.kinds.entry(kind_of(answer)).or_default() += 1;
+        if kind_of(answer) == 0 {
+            *self.refusals.entry(refusal_of(answer)).or_default() += 1;
+        }
+    }
+
+    /// A random plan, before any damage.
+    pub fn note_sheet(&mut self, network: Option<&Network>) {
+        self.event("random plans");
+        if let Some(network) = network {
+            self.event("random plans that pass");
+            let plan = &network.plan;
+            if plan.count() == 64 {
+                self.event("that pass with 64 bookings");
+            }
+            if plan.links.len() == 512 {
+                self.event("that pass with 512 links");
+            }
+            if plan.ways.len() == 16 {
+                self.event("that pass with 16 ways");
+            }
+        }
+    }
+
+    pub fn event(&mut self, name: &'static str) {
+        *self.events.entry(name).or_default() += 1;
+    }
+
+    /// A state that breaks this sentence of soundness alone.
+    pub fn broke_alone(&mut self, sentence: &'static str) {
+        *self.sentences.entry(sentence).or_default() += 1;
+    }
+
+    pub fn count_of_kind(&self, kind: u32) -> u64 {
+        self.kinds.get(&kind).copied().unwrap_or(0)
+    }
+
+    pub fn count_of_refusal(&self, refusal: u32) -> u64 {
+        self.refusals.get(&refusal).copied().unwrap_or(0)
+    }
+}
+
+impl fmt::Display for Tally {
+    fn fmt(&self, out: &mut fmt::Formatter) -> fmt::Result {
+        for (name, count) in &self.calls {
+            writeln!(out, "calls of {name}: {count}")?;
+        }
+        for kind in 0..=6 {
+            writeln!(out, "kind {kind}: {}", self.count_of_kind(kind))?;
+        }
+        for refusal in 1..=11 {
+            writeln!(out, "refusal {refusal}: {}", self.count_of_refusal(refusal))?;
+        }
+        for (name, count) in &self.events {
+            writeln!(out, "{name}: {count}")?;
+        }
+        for (name, count) in &self.sentences {
+            writeln!(out, "states that break only \"{name}\": {count}")?;
+        }
+        Ok(())
+    }
+}

@@ -1,0 +1,205 @@
+//! Random campaigns: next orders and replies in any mixture, with probes of
+//! states nearby.
+
+use super::ledger::Ledger;
+use super::{Call, Case, Comparison, Outcome};
+use crate::calls::{kind_of, ACCEPTED, CALLED_OFF, FLOWN};
+use crate::dice::Dice;
+use crate::plan::{Kind, Plan};
+use crate::run::{self, State, REQUESTED, RETURNING};
+
+/// How the desks and the dispatcher of one campaign behave, in percent.
+struct Manner {
+    confirm: usize,
+    keep: usize,
+    repeat: usize,
+    ask: usize,
+    misfit: usize,
+    probe: usize,
+}
+
+fn manner(dice: &mut Dice) -> Manner {
+    Manner {
+        confirm: dice.pick(&[0, 40, 60, 75, 85, 90, 95, 100]),
+        keep: dice.pick(&[0, 20, 50]),
+        repeat: dice.pick(&[0, 20, 50]),
+        ask: dice.pick(&[30, 50, 70, 90]),
+        misfit: dice.pick(&[0, 10, 30]),
+        probe: dice.pick(&[0, 10, 30]),
+    }
+}
+
+impl Manner {
+    /// The letter of a reply that fits.
+    fn letter(&self, dice: &mut Dice, code: u8, kind: Kind) -> u8 {
+        let refuse = if kind == Kind::Repeatable { self.repeat } else { 100 - self.confirm };
+        match code {
+            RETURNING if dice.percent(self.keep) => b'K',
+            RETURNING => b'G',
+            _ if dice.percent(refuse) => b'N',
+            _ => b'Y',
+        }
+    }
+}
+
+fn any_letter(dice: &mut Dice) -> u8 {
+    match dice.below(10) {
+        0..=6 => dice.pick(b"YNGK"),
+        7..=8 => dice.pick(b"yngkXCPR \n\0\xFF"),
+        _ => dice.byte(),
+    }
+}
+
+/// Any letter with any booking; bookings that could be mistaken for good ones
+/// when cut to fewer bits are likely.
+fn any_reply(dice: &mut Dice, n: usize) -> Call {
+    let letter = any_letter(dice);
+    let good = dice.between(1, n) as u32;
+    let booking = match dice.below(10) {
+        0 => 0,
+        1 => n as u32 + 1,
+        2 => dice.pick(&[64, 65, 66, 255, 256, 65_535, 65_536]),
+        3 => u32::MAX - dice.below(3) as u32,
+        4 => good + dice.pick(&[64, 128, 256, 65_536, 1 << 24, 1 << 31]),
+        _ => good,
+    };
+    Call::Reply(letter, booking)
+}
+
+fn fitting_reply(dice: &mut Dice, plan: &Plan, state: &[u8], manner: &Manner) -> Option<Call> {
+    let waiting = |b: &usize| state[*b] == REQUESTED || state[*b] == RETURNING;
+    let waiting: Vec<usize> = plan.bookings().filter(waiting).collect();
+    if waiting.is_empty() {
+        return None;
+    }
+    let booking = dice.pick(&waiting);
+    Some(Call::Reply(manner.letter(dice, state[booking], plan.kind(booking)), booking as u32))
+}
+
+impl Manner {
+    fn next_call(&self, dice: &mut Dice, plan: &Plan, state: &[u8]) -> Call {
+        if dice.percent(self.misfit) {
+            return any_reply(dice, plan.count());
+        }
+        if dice.percent(self.ask) {
+            return Call::NextOrder;
+        }
+        fitting_reply(dice, plan, state, self).unwrap_or(Call::NextOrder)
+    }
+}
+
+fn is_end(call: Call, answer: u32) -> bool {
+    call == Call::NextOrder && [FLOWN, CALLED_OFF].contains(&kind_of(answer))
+}
+
+impl Comparison<'_> {
+    /// One list of calls from start to some calls after the end, with the
+    /// campaign's claim counted along it. The sheet must pass.
+    pub fn campaign(&mut self, case: &Case, dice: &mut Dice) -> Outcome {
+        let plan = &case.network().expect("a sheet that passes").plan;
+        let size: usize = plan.ways.iter().map(Vec::len).sum();
+        let longest = (20 * size + 40).min(3000);
+        let mut manner = manner(dice);
+        let mut state: Vec<u8> = (0..65).map(|_| dice.byte()).collect();
+        let mut ledger = Ledger::default();
+        let mut calls_after_end = 0;
+        self.call(case, &mut state, Call::Start)?;
+        for length in 0..longest {
+            if length == longest / 2 {
+                // So that most campaigns end.
+                (manner.keep, manner.repeat) = (0, 0);
+            }
+            if dice.percent(manner.probe) {
+                self.probe(case, &state, dice)?;
+            }
+            let call = manner.next_call(dice, plan, &state);
+            let way = state[0];
+            let answer = self.call(case, &mut state, call)?;
+            let entered = ledger.enter(plan, call, answer);
+            entered.map_err(|told| self.report(case, &state, &told))?;
+            self.note_switch(way, state[0]);
+            if is_end(call, answer) && calls_after_end == 0 {
+                self.note_end(answer, state[0]);
+            }
+            if calls_after_end > 0 || is_end(call, answer) {
+                calls_after_end += 1;
+            }
+            if calls_after_end > 5 {
+                break;
+            }
+        }
+        self.tally.event("campaigns");
+        Ok(())
+    }
+
+    fn note_switch(&mut self, before: u8, after: u8) {
+        if before != after && after != 0 {
+            self.tally.event("switches to another way");
+        }
+    }
+
+    fn note_end(&mut self, answer: u32, way: u8) {
+        match kind_of(answer) {
+            CALLED_OFF => self.tally.event("campaigns called off"),
+            _ if way == 1 => self.tally.event("campaigns flown by the first way"),
+            _ => self.tally.event("campaigns flown by a later way"),
+        }
+    }
+
+    /// Calls on a state some bytes away from one of the campaign.
+    fn probe(&mut self, case: &Case, near: &[u8], dice: &mut Dice) -> Outcome {
+        let network = case.network().expect("a sheet that passes");
+        let n = network.plan.count();
+        let state = changed(dice, &network.plan, near.try_into().expect("65 bytes"));
+        match run::broken_sentences(network, &state)[..] {
+            [] => return self.stray(case, &state, dice),
+            [sentence] => self.tally.broke_alone(sentence),
+            _ => {}
+        }
+        self.call(case, &mut state.to_vec(), Call::NextOrder)?;
+        self.call(case, &mut state.to_vec(), any_reply(dice, n))?;
+        // A sound state, but for its length.
+        let mut other = near.to_vec();
+        other.resize(dice.pick(&[0, 1, 64, 66, 200]), dice.pick(&[0, 1, 255]));
+        self.call(case, &mut other, any_call(dice, n))?;
+        Ok(())
+    }
+
+    /// Some calls from a sound state that no campaign need reach.
+    fn stray(&mut self, case: &Case, from: &State, dice: &mut Dice) -> Outcome {
+        self.tally.event("sound states beside the campaigns");
+        let plan = &case.network().expect("a sheet that passes").plan;
+        let mut state = from.to_vec();
+        let manner = manner(dice);
+        for _ in 0..6 {
+            let call = manner.next_call(dice, plan, &state);
+            let answer = self.call(case, &mut state, call)?;
+            if kind_of(answer) == ACCEPTED && dice.percent(20) {
+                break;
+            }
+        }
+        Ok(())
+    }
+}
+
+/// A state with some bytes changed, mostly into other good codes.
+fn changed(dice: &mut Dice, plan: &Plan, mut state: State) -> State {
+    let (n, a) = (plan.count(), plan.ways.len());
+    for _ in 0..dice.pick(&[1, 1, 2, 3, 6]) {
+        match dice.below(10) {
+            0 => state[0] = dice.between(0, a) as u8,
+            1 => state[0] = dice.pick(&[0, a as u8 + 1, 255]),
+            2 => state[dice.between(1, 64)] = dice.pick(&[0, 1, 2, 3, 4, 5, 255]),
+            _ => state[dice.between(1, n)] = dice.pick(&[0, 1, 1, 2, 2, 3, 3, 4, 4, 5]),
+        }
+    }
+    state
+}
+
+fn any_call(dice: &mut Dice, n: usize) -> Call {
+    match dice.below(3) {
+        0 => Call::Start,
+        1 => Call::NextOrder,
+        _ => any_reply(dice, n),
+    }
+}

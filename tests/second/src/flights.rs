@@ -1,0 +1,330 @@
+//! Named sheets with their verdicts, and states that break one sentence each.
+
+use crate::plan::{self, Kind, Plan};
+use crate::run::{State, STATE_LENGTH};
+
+/// A plan from its kinds as letters, its links and its ways.
+pub fn plan_of(kinds: &str, links: &[(usize, usize)], ways: &[&[usize]]) -> Plan {
+    Plan {
+        kinds: kinds.bytes().map(|letter| Kind::of_letter(letter).unwrap()).collect(),
+        links: links.to_vec(),
+        ways: ways.iter().map(|way| way.to_vec()).collect(),
+    }
+}
+
+/// A sheet and what check says of it: refusal and place, or (0, 0) if it passes.
+pub struct Flight {
+    pub name: &'static str,
+    pub sheet: Vec<u8>,
+    pub verdict: (u32, u32),
+}
+
+fn flight(name: &'static str, plan: Plan, verdict: (u32, u32)) -> Flight {
+    Flight { name, sheet: plan::write(&plan).into_bytes(), verdict }
+}
+
+pub fn tanker() -> Plan {
+    plan_of("CPCR", &[(1, 2), (2, 3), (2, 4)], &[&[1, 2, 3], &[1, 2, 4]])
+}
+
+/// Two pivots in a row with choices after each, and a way without either.
+pub fn middle_sized() -> Plan {
+    plan_of(
+        "CCPCCPCRRCRC",
+        &[(1, 3), (2, 3), (3, 4), (3, 5), (3, 10), (3, 11), (4, 6), (5, 6), (6, 7), (6, 8), (8, 9)],
+        &[&[1, 2, 3, 4, 5, 6, 7], &[1, 2, 3, 4, 5, 6, 8, 9], &[1, 2, 3, 10], &[1, 2, 3, 11], &[1, 12]],
+    )
+}
+
+/// The named sheets, small enough to be damaged at every byte.
+pub fn named() -> Vec<Flight> {
+    vec![
+        flight("tanker", tanker(), (0, 0)),
+        flight("tanker without refuge", plan_of("CPC", &[(1, 2), (2, 3)], &[&[1, 2, 3]]), (8, 259)),
+        flight("two pivots", plan_of("PP", &[], &[&[1, 2]]), (8, 257)),
+        flight("pivot and repeatable", plan_of("PR", &[], &[&[1, 2], &[2]]), (0, 0)),
+        flight("other order of ways", plan_of("PR", &[], &[&[2], &[1, 2]]), (8, 513)),
+        flight("circle", plan_of("CC", &[(1, 2), (2, 1)], &[&[1, 2]]), (4, 1)),
+        flight("link to itself", plan_of("CC", &[(2, 2)], &[&[1, 2]]), (4, 2)),
+        flight("unclosed way", plan_of("CC", &[(1, 2)], &[&[1, 2], &[2]]), (5, 2)),
+        flight("unused booking", plan_of("CCC", &[], &[&[1], &[3]]), (6, 2)),
+        flight("repeated way", plan_of("CC", &[], &[&[1, 2], &[1], &[1, 2]]), (7, 3)),
+        flight("one returnable", plan_of("C", &[], &[&[1]]), (0, 0)),
+        flight("two returnables", plan_of("CC", &[], &[&[1, 2]]), (0, 0)),
+        flight("two repeatables", plan_of("RR", &[], &[&[1], &[2]]), (0, 0)),
+        flight("middle-sized", middle_sized(), (0, 0)),
+    ]
+}
+
+/// n bookings C in one way, and the first m links that rise.
+fn returnables(n: usize, m: usize) -> Plan {
+    let pairs = (1..=n).flat_map(|u| (u + 1..=n).map(move |v| (u, v)));
+    let everything: Vec<usize> = (1..=n).collect();
+    plan_of(&"C".repeat(n), &pairs.take(m).collect::<Vec<_>>(), &[&everything])
+}
+
+/// a ways, each with a booking of its own.
+fn separate_ways(a: usize) -> Plan {
+    let n = a.max(1);
+    let mut plan = returnables(n, 0);
+    plan.ways = (1..=a).map(|booking| vec![booking]).collect();
+    plan
+}
+
+/// One chain of links through all 64 bookings, a repeatable at its end.
+fn chain(rising: bool) -> Plan {
+    let returnables = "C".repeat(63);
+    let everything: Vec<usize> = (1..=64).collect();
+    let (kinds, links): (String, Vec<(usize, usize)>) = if rising {
+        (returnables + "R", (1..64).map(|b| (b, b + 1)).collect())
+    } else {
+        ("R".to_string() + &returnables, (2..=64).map(|b| (b, b - 1)).collect())
+    };
+    plan_of(&kinds, &links, &[&everything])
+}
+
+/// The chain closed to a circle.
+fn longest_circle() -> Plan {
+    let mut plan = chain(true);
+    plan.links.push((64, 1));
+    plan
+}
+
+fn last_circle() -> Plan {
+    let mut plan = returnables(64, 0);
+    plan.links = vec![(62, 63), (63, 64), (64, 63)];
+    plan
+}
+
+/// As many links as there can be, and only the last one closes a circle.
+fn last_link_closes() -> Plan {
+    let mut plan = returnables(64, 511);
+    plan.links.push((64, 1));
+    plan
+}
+
+/// Ways of one returnable each, then these ways of further bookings.
+fn late_ways(returnables: usize, kinds: &str, last: &[&[usize]]) -> Plan {
+    let single: Vec<Vec<usize>> = (1..=returnables).map(|booking| vec![booking]).collect();
+    let ways: Vec<&[usize]> = single.iter().map(Vec::as_slice).chain(last.iter().copied()).collect();
+    plan_of(&("C".repeat(returnables) + kinds), &[], &ways)
+}
+
+/// As many bookings, links and ways as there can be, and every way full.
+pub fn longest() -> Plan {
+    let mut plan = returnables(plan::MOST_BOOKINGS, plan::MOST_LINKS);
+    plan.ways = vec![plan.ways[0].clone(); plan::MOST_WAYS];
+    plan
+}
+
+/// Each limit, reached and passed.
+pub fn boundaries() -> Vec<Flight> {
+    let mut overlong = flight("a byte after the longest sheet", longest(), (1, 594));
+    overlong.sheet.push(b'\n');
+    vec![
+        Flight { name: "empty sheet", sheet: Vec::new(), verdict: (1, 1) },
+        flight("64 bookings", returnables(64, 0), (0, 0)),
+        flight("65 bookings", returnables(65, 0), (2, 1)),
+        flight("no booking", returnables(0, 0), (2, 1)),
+        flight("512 links", returnables(64, 512), (0, 0)),
+        flight("513 links", returnables(64, 513), (2, 1)),
+        flight("16 ways", separate_ways(16), (0, 0)),
+        flight("17 ways", separate_ways(17), (2, 1)),
+        flight("no way", separate_ways(0), (2, 1)),
+        flight("longest chain", chain(true), (0, 0)),
+        flight("longest chain falling", chain(false), (0, 0)),
+        flight("longest circle", longest_circle(), (4, 1)),
+        flight("circle of the last two", last_circle(), (4, 63)),
+        flight("512th link closes a circle", last_link_closes(), (4, 1)),
+        flight("way 16 strands", late_ways(15, "PP", &[&[16, 17]]), (8, 16 * 256 + 16)),
+        flight("way 15 strands", late_ways(14, "PPC", &[&[15, 16], &[17]]), (8, 15 * 256 + 15)),
+        flight("way 16 is the refuge", late_ways(14, "PR", &[&[15, 16], &[16]]), (0, 0)),
+        flight("longest sheet", longest(), (7, 2)),
+        overlong,
+    ]
+}
+
+/// A state that breaks one sentence of soundness and no other.
+pub struct Unsound {
+    pub plan: Plan,
+    pub state: State,
+    pub sentence: &'static str,
+}
+
+/// A state from its first bytes.
+fn state_of(bytes: &[u8]) -> State {
+    let mut state = [0; STATE_LENGTH];
+    state[..bytes.len()].copy_from_slice(bytes);
+    state
+}
+
+fn unsound(plan: Plan, bytes: &[u8], sentence: &'static str) -> Unsound {
+    Unsound { plan, state: state_of(bytes), sentence }
+}
+
+pub fn unsound_states() -> Vec<Unsound> {
+    let two_choices = || plan_of("CCC", &[], &[&[1, 2], &[3]]);
+    let linked = || plan_of("CCC", &[(1, 2)], &[&[1, 2, 3]]);
+    let repeatables = || plan_of("RR", &[], &[&[1], &[2]]);
+    let mut last_byte = unsound(tanker(), &[1], "bytes past the bookings are zero");
+    last_byte.state[64] = 3;
+    vec![
+        unsound(tanker(), &[1, 5], "codes exist"),
+        unsound(tanker(), &[1, 0, 0, 0, 255], "codes exist"),
+        unsound(tanker(), &[3, 3], "current way exists"),
+        unsound(tanker(), &[255, 3], "current way exists"),
+        unsound(tanker(), &[1, 0, 0, 0, 0, 1], "bytes past the bookings are zero"),
+        last_byte,
+        unsound(tanker(), &[1, 0, 1], "requested, held, returning stand on held"),
+        unsound(tanker(), &[1, 0, 2], "requested, held, returning stand on held"),
+        unsound(tanker(), &[0, 0, 3, 4], "requested, held, returning stand on held"),
+        unsound(tanker(), &[1, 0, 0, 0, 3], "lost are exposed"),
+        unsound(tanker(), &[1, 2, 2, 0, 1], "requested are in the current way"),
+        unsound(tanker(), &[1, 2, 2, 0, 4], "returning are returnable"),
+        unsound(tanker(), &[1, 4], "returning are outside the current way"),
+        unsound(two_choices(), &[2, 3, 2, 1], "nothing requested while clearing"),
+        unsound(two_choices(), &[2, 3, 4, 1], "nothing requested while clearing"),
+        unsound(tanker(), &[2], "earlier ways are not live"),
+        unsound(tanker(), &[0], "earlier ways are not live"),
+        unsound(tanker(), &[1, 2, 2, 0, 2], "held firm are in the current way"),
+        unsound(repeatables(), &[0, 2, 2], "held firm are in the current way"),
+        unsound(linked(), &[1, 0, 3, 1], "lost in the current way stand on held"),
+        unsound(tanker(), &[1, 3], "lost in the current way means requested"),
+    ]
+}
+
+#[cfg(test)]
+mod tests {
+    use super::*;
+    use crate::calls::{self, *};
+    use crate::drill::drill;
+    use crate::run;
+
+    const TANKER_PRINTS: &str =
+        "Q   1\nW   0\nQ   2\nW   0\nQ   3\nW   0\nQ   4\nW   0\nQ   4\nW   0\nE   2\n";
+
+    fn sheet(plan: &Plan) -> Vec<u8> {
+        plan::write(plan).into_bytes()
+    }
+
+    #[test]
+    fn verdicts_of_named_sheets_and_boundaries() {
+        for flight in named().iter().chain(&boundaries()) {
+            let kind = if flight.verdict == (0, 0) { ACCEPTED } else { REFUSED };
+            let (refusal, place) = flight.verdict;
+            assert_eq!(calls::check(&flight.sheet), pack(kind, refusal, place), "{}", flight.name);
+        }
+        assert_eq!(sheet(&longest()).len(), plan::LONGEST_SHEET);
+    }
+
+    #[test]
+    fn tanker_prints_in_full() {
+        let printed = drill(&sheet(&tanker()), b"Y   1\nY   2\nN   3\nN   4\nY   4\n");
+        assert_eq!(printed, TANKER_PRINTS);
+    }
+
+    /// Plays replies after taking orders to the first wait; gives all answers.
+    fn answers(plan: &Plan, replies: &[(u8, u32)]) -> Vec<u32> {
+        let sheet = sheet(plan);
+        let mut state = [7; STATE_LENGTH];
+        let mut given = vec![calls::start(&sheet, &mut state)];
+        let orders = |given: &mut Vec<u32>, state: &mut State| loop {
+            given.push(calls::next_order(&sheet, state));
+            if ![REQUEST, RETURN].contains(&kind_of(*given.last().unwrap())) {
+                break;
+            }
+        };
+        orders(&mut given, &mut state);
+        for &(letter, booking) in replies {
+            given.push(calls::reply(&sheet, &mut state, letter, booking));
+            orders(&mut given, &mut state);
+        }
+        given
+    }
+
+    const STARTED: u32 = 6 << 24;
+    const WAITS: u32 = 3 << 24;
+    const OFF: u32 = 5 << 24;
+
+    #[test]
+    fn one_returnable_refused_is_called_off() {
+        let given = answers(&plan_of("C", &[], &[&[1]]), &[(b'N', 1)]);
+        assert_eq!(given, [STARTED, pack(1, 0, 1), WAITS, pack(6, 0, 1), OFF]);
+    }
+
+    #[test]
+    fn a_kept_return_is_ordered_again() {
+        let plan = plan_of("CC", &[], &[&[1, 2]]);
+        let given = answers(&plan, &[(b'Y', 1), (b'N', 2), (b'K', 1), (b'G', 1)]);
+        let (one, two) = (pack(6, 0, 1), pack(6, 0, 2));
+        let back = pack(2, 0, 1);
+        let requests = [STARTED, pack(1, 0, 1), pack(1, 0, 2), WAITS];
+        let replies = [one, WAITS, two, back, WAITS, one, back, WAITS, one, OFF];
+        assert_eq!(given, [&requests[..], &replies[..]].concat());
+    }
+
+    #[test]
+    fn replies_that_do_not_fit() {
+        let sheet = sheet(&tanker());
+        let mut state = run::start();
+        calls::next_order(&sheet, &mut state);
+        let before = state;
+        for (letter, booking, place) in [
+            (b'G', 1, 1),
+            (b'Y', 2, 2),
+            (b'Y', 0, 0),
+            (b'y', 1, 1),
+            (b'Y', 5, 5),
+            (b'Y', 64, 64),
+            (b'Y', 65, 0),
+            (b'Y', u32::MAX, 0),
+            (b'Y', 257, 0),
+        ] {
+            assert_eq!(calls::reply(&sheet, &mut state, letter, booking), pack(0, 9, place));
+            assert_eq!(state, before);
+        }
+    }
+
+    #[test]
+    fn refusals_come_in_order() {
+        let (good, bad) = (sheet(&tanker()), sheet(&plan_of("PP", &[], &[&[1, 2]])));
+        for length in [0, 1, 64, 66, 200] {
+            let mut state = vec![1; length];
+            assert_eq!(calls::start(&good, &mut state), pack(0, 11, 0));
+            assert_eq!(calls::next_order(&good, &mut state), pack(0, 11, 0));
+            assert_eq!(calls::reply(&good, &mut state, b'?', 99), pack(0, 11, 0));
+            assert_eq!(calls::start(&bad, &mut state), pack(0, 8, 257));
+            assert_eq!(calls::reply(&bad, &mut state, b'?', 99), pack(0, 8, 257));
+            assert_eq!(state, vec![1; length]);
+        }
+    }
+
+    #[test]
+    fn each_unsound_state_breaks_its_own_sentence() {
+        for case in unsound_states() {
+            let network = crate::check::check(case.plan).unwrap();
+            assert_eq!(run::broken_sentences(&network, &case.state), [case.sentence]);
+        }
+        for (sentence, _) in run::SENTENCES {
+            assert!(unsound_states().iter().any(|case| case.sentence == sentence));
+        }
+    }
+
+    #[test]
+    fn drill_of_refused_sheets_and_replies() {
+        let sheet = sheet(&tanker());
+        assert_eq!(drill(b"", b"Y   1\n"), "X   1     1\n");
+        assert_eq!(drill(&sheet, b""), "Q   1\nW   0\n");
+        assert_eq!(
+            drill(&sheet, b"?   1\nG   1\nY9999\n"),
+            "Q   1\nW   0\nX   9     1\nX   9     1\nX   9     0\n"
+        );
+        assert_eq!(
+            drill(&sheet, b"\n   1\nY   2\nY   1\nY  02\n"),
+            "Q   1\nW   0\nX   9     1\nX   9     2\nQ   2\nW   0\nX   1     4\n"
+        );
+        assert_eq!(drill(&sheet, b"Y   1"), "Q   1\nW   0\nX   1     1\n");
+        let unlinked = plan::write(&plan_of("PP", &[], &[&[1, 2]]));
+        assert_eq!(drill(unlinked.as_bytes(), b"Y   1\n"), "X   8   257\n");
+    }
+}

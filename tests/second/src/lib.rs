@@ -1,0 +1,14 @@
+//! A second, independent and deliberately plain version of the campaign
+//! booking coordinator, and the comparison of any first version with it.
+//!
+//! Bookings and ways are numbered from 1 everywhere, as on the sheet.
+
+pub mod calls;
+pub mod check;
+pub mod comparison;
+pub mod dice;
+pub mod drill;
+pub mod flights;
+pub mod generate;
+pub mod plan;
+pub mod run;

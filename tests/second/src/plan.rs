@@ -1,0 +1,298 @@
+//! Plan sheets: the plan, its reader and its writer.
+
+pub const MOST_BOOKINGS: usize = 64;
+pub const MOST_LINKS: usize = 512;
+pub const MOST_WAYS: usize = 16;
+pub const LONGEST_SHEET: usize = 9838;
+
+const LINE_FEED: u8 = 10;
+
+/// Why something is refused: the number of the rule, and where.
+#[derive(Clone, Copy, Debug, PartialEq, Eq)]
+pub struct Refusal {
+    pub number: u32,
+    pub place: u32,
+}
+
+#[derive(Clone, Copy, Debug, PartialEq, Eq)]
+pub enum Kind {
+    Returnable,
+    Pivot,
+    Repeatable,
+}
+
+impl Kind {
+    pub fn of_letter(letter: u8) -> Option<Kind> {
+        match letter {
+            b'C' => Some(Kind::Returnable),
+            b'P' => Some(Kind::Pivot),
+            b'R' => Some(Kind::Repeatable),
+            _ => None,
+        }
+    }
+
+    pub fn letter(self) -> char {
+        match self {
+            Kind::Returnable => 'C',
+            Kind::Pivot => 'P',
+            Kind::Repeatable => 'R',
+        }
+    }
+
+    /// Once held it can't be given back.
+    pub fn is_firm(self) -> bool {
+        self == Kind::Pivot || self == Kind::Repeatable
+    }
+
+    /// A desk can refuse it for good.
+    pub fn is_exposed(self) -> bool {
+        self == Kind::Returnable || self == Kind::Pivot
+    }
+}
+
+#[derive(Clone, Debug, Default, PartialEq, Eq)]
+pub struct Plan {
+    /// The kind of booking b stands at b - 1.
+    pub kinds: Vec<Kind>,
+    /// (u, v): u comes before v.
+    pub links: Vec<(usize, usize)>,
+    /// Way i stands at i - 1; the most wanted is first.
+    pub ways: Vec<Vec<usize>>,
+}
+
+impl Plan {
+    /// The number of bookings, n.
+    pub fn count(&self) -> usize {
+        self.kinds.len()
+    }
+
+    pub fn kind(&self, booking: usize) -> Kind {
+        self.kinds[booking - 1]
+    }
+
+    pub fn bookings(&self) -> std::ops::RangeInclusive<usize> {
+        1..=self.count()
+    }
+
+    pub fn way_numbers(&self) -> std::ops::RangeInclusive<usize> {
+        1..=self.ways.len()
+    }
+
+    /// The bookings of a way; no way at all, like 0, has none.
+    pub fn way(&self, number: usize) -> &[usize] {
+        if self.way_numbers().contains(&number) {
+            &self.ways[number - 1]
+        } else {
+            &[]
+        }
+    }
+
+    pub fn is_in_way(&self, booking: usize, way: usize) -> bool {
+        self.way(way).contains(&booking)
+    }
+}
+
+/// The number that fills these columns: spaces, then digits to the end, and
+/// no zero in front of another digit.
+pub fn number_in_columns(columns: &[u8]) -> Option<usize> {
+    let spaces = columns.iter().take_while(|&&c| c == b' ').count();
+    let digits = &columns[spaces..];
+    if digits.is_empty() || !digits.iter().all(u8::is_ascii_digit) {
+        return None;
+    }
+    if digits.len() > 1 && digits[0] == b'0' {
+        return None;
+    }
+    Some(digits.iter().fold(0, |value, digit| 10 * value + usize::from(digit - b'0')))
+}
+
+/// Reads on from a place in the sheet and knows the line it is on.
+struct Reader<'a> {
+    bytes: &'a [u8],
+    at: usize,
+    line: u32,
+}
+
+impl<'a> Reader<'a> {
+    fn demand(&self, holds: bool, number: u32) -> Result<(), Refusal> {
+        if holds {
+            Ok(())
+        } else {
+            Err(Refusal { number, place: self.line })
+        }
+    }
+
+    fn take(&mut self, count: usize) -> Result<&'a [u8], Refusal> {
+        self.demand(self.bytes.len() - self.at >= count, 1)?;
+        self.at += count;
+        Ok(&self.bytes[self.at - count..self.at])
+    }
+
+    fn mark(&mut self, wanted: u8) -> Result<(), Refusal> {
+        let found = self.take(1)?[0];
+        self.demand(found == wanted, 1)
+    }
+
+    fn number(&mut self) -> Result<usize, Refusal> {
+        let columns = self.take(4)?;
+        number_in_columns(columns).ok_or(Refusal { number: 1, place: self.line })
+    }
+
+    fn head(&mut self) -> Result<(usize, usize, usize), Refusal> {
+        self.line += 1;
+        self.mark(b'P')?;
+        let (n, m, a) = (self.number()?, self.number()?, self.number()?);
+        self.mark(LINE_FEED)?;
+        self.demand((1..=MOST_BOOKINGS).contains(&n), 2)?;
+        self.demand(m <= MOST_LINKS, 2)?;
+        self.demand((1..=MOST_WAYS).contains(&a), 2)?;
+        Ok((n, m, a))
+    }
+
+    /// A wrong letter of kind is a fault of form, so it comes before the
+    /// number out of sequence.
+    fn booking(&mut self, due: usize) -> Result<Kind, Refusal> {
+        self.line += 1;
+        self.mark(b'B')?;
+        let number = self.number()?;
+        self.mark(b' ')?;
+        let kind = Kind::of_letter(self.take(1)?[0]);
+        self.demand(kind.is_some(), 1)?;
+        self.mark(LINE_FEED)?;
+        self.demand(number == due, 3)?;
+        Ok(kind.unwrap())
+    }
+
+    fn link(&mut self, n: usize, before: Option<(usize, usize)>) -> Result<(usize, usize), Refusal> {
+        self.line += 1;
+        self.mark(b'L')?;
+        let (u, v) = (self.number()?, self.number()?);
+        self.mark(LINE_FEED)?;
+        self.demand((1..=n).contains(&u) && (1..=n).contains(&v), 3)?;
+        self.demand(before.is_none_or(|last| last < (u, v)), 3)?;
+        Ok((u, v))
+    }
+
+    /// The count is judged before the rest, for it says how long the line is.
+    fn way(&mut self, n: usize) -> Result<Vec<usize>, Refusal> {
+        self.line += 1;
+        self.mark(b'A')?;
+        let k = self.number()?;
+        self.demand((1..=n).contains(&k), 2)?;
+        let mut way = Vec::new();
+        for _ in 0..k {
+            way.push(self.number()?);
+        }
+        self.mark(LINE_FEED)?;
+        self.demand(way.iter().all(|b| (1..=n).contains(b)), 3)?;
+        self.demand(way.windows(2).all(|pair| pair[0] < pair[1]), 3)?;
+        Ok(way)
+    }
+
+    fn nothing_more(&mut self) -> Result<(), Refusal> {
+        self.line += 1;
+        self.demand(self.at == self.bytes.len(), 1)
+    }
+}
+
+/// The plan on a sheet, or the first refusal among 1, 2, 3 with its line.
+pub fn read(bytes: &[u8]) -> Result<Plan, Refusal> {
+    let mut reader = Reader { bytes, at: 0, line: 0 };
+    let mut plan = Plan::default();
+    let (n, m, a) = reader.head()?;
+    for number in 1..=n {
+        plan.kinds.push(reader.booking(number)?);
+    }
+    for _ in 0..m {
+        let before = plan.links.last().copied();
+        plan.links.push(reader.link(n, before)?);
+    }
+    for _ in 0..a {
+        plan.ways.push(reader.way(n)?);
+    }
+    reader.nothing_more()?;
+    Ok(plan)
+}
+
+/// The text of a plan, good or bad; nothing is judged here, so that bad
+/// sheets can be written for tests.
+pub fn write(plan: &Plan) -> String {
+    let (n, m, a) = (plan.kinds.len(), plan.links.len(), plan.ways.len());
+    let mut text = format!("P{n:4}{m:4}{a:4}\n");
+    for (at, kind) in plan.kinds.iter().enumerate() {
+        text += &format!("B{:4} {}\n", at + 1, kind.letter());
+    }
+    for (u, v) in &plan.links {
+        text += &format!("L{u:4}{v:4}\n");
+    }
+    for way in &plan.ways {
+        text += &format!("A{:4}", way.len());
+        for booking in way {
+            text += &format!("{booking:4}");
+        }
+        text += "\n";
+    }
+    text
+}
+
+#[cfg(test)]
+mod tests {
+    use super::*;
+
+    fn refused(text: &str) -> (u32, u32) {
+        let refusal = read(text.as_bytes()).unwrap_err();
+        (refusal.number, refusal.place)
+    }
+
+    #[test]
+    fn numbers_stand_in_four_columns() {
+        assert_eq!(number_in_columns(b"   0"), Some(0));
+        assert_eq!(number_in_columns(b"  17"), Some(17));
+        assert_eq!(number_in_columns(b"9999"), Some(9999));
+        for bad in [b"    ", b"  01", b"0000", b"1   ", b" 1 2", b"  -1", b"  +1", b"\t  1"] {
+            assert_eq!(number_in_columns(bad), None);
+        }
+    }
+
+    #[test]
+    fn a_sheet_is_read_back() {
+        let text = "P   2   1   2\nB   1 C\nB   2 R\nL   1   2\nA   1   1\nA   2   1   2\n";
+        let plan = read(text.as_bytes()).unwrap();
+        assert_eq!(plan.links, [(1, 2)]);
+        assert_eq!(plan.ways, [vec![1], vec![1, 2]]);
+        assert_eq!(write(&plan), text);
+    }
+
+    #[test]
+    fn bytes_that_end_early_or_remain() {
+        let text = "P   1   0   1\nB   1 C\nA   1   1\n";
+        assert!(read(text.as_bytes()).is_ok());
+        for length in 0..text.len() {
+            let line = 1 + text[..length].matches('\n').count() as u32;
+            assert_eq!(refused(&text[..length]), (1, line));
+        }
+        assert_eq!(refused(&format!("{text}\n")), (1, 4));
+    }
+
+    #[test]
+    fn one_two_three_on_a_line() {
+        assert_eq!(refused("P   0   0   1\n"), (2, 1));
+        assert_eq!(refused("P   0   0   1"), (1, 1));
+        assert_eq!(refused("P   1   0   1\nB   2 X\n"), (1, 2));
+        assert_eq!(refused("P   1   0   1\nB   2 C\n"), (3, 2));
+        assert_eq!(refused("P   1   0   1\nB   1 C\nA   0"), (2, 3));
+        assert_eq!(refused("P   1   0   1\nB   1 C\nA   2   1"), (2, 3));
+        assert_eq!(refused("P   1   0   1\nB   1 C\nA   1   2"), (1, 3));
+        assert_eq!(refused("P   1   0   1\nB   1 C\nA   1   2\n"), (3, 3));
+        assert_eq!(refused("P   1   0   1\nB   1 C\nA   1   1   2\n"), (1, 3));
+        assert_eq!(refused("P   1   1   1\nB   1 C\nL   1   0\n"), (3, 3));
+    }
+
+    #[test]
+    fn links_and_ways_rise_strictly() {
+        let head = "P   2   2   1\nB   1 C\nB   2 C\n";
+        assert_eq!(refused(&format!("{head}L   1   2\nL   1   2\n")), (3, 5));
+        assert_eq!(refused(&format!("{head}L   2   1\nL   1   2\n")), (3, 5));
+        assert_eq!(refused(&format!("{head}L   1   1\nL   1   2\nA   2   2   1\n")), (3, 6));
+    }
+}

@@ -1,0 +1,252 @@
+//! Wrong versions of the four calls: the comparison must find each.
+
+use second::calls::{self, kind_of, pack, place_of, refusal_of};
+use second::check::{self, Network};
+use second::comparison::{Campaign, Comparison};
+use second::plan::{self, Kind};
+use second::run::{self, State};
+
+/// The second version itself, but for one fault.
+#[derive(Clone, Copy, Debug)]
+enum Fault {
+    None,
+    PassesAll,
+    RejectsAll,
+    RepeatablesLeftOutOfS,
+    RefugeMayHaveLostPivot,
+    OneLineFeedTooManyIsRead,
+    StrandingPlaceTurnedRound,
+    DropsSentence(usize),
+    LongerStateIsCut,
+    MisfitBeforeUnsound,
+    BookingCutToByte,
+    PlaceOfBookingsAbove64,
+    RefusedCallScribbles,
+    StartKeepsBytesPastBookings,
+    KeptBecomesFree,
+    RepeatableIsLost,
+    SwitchWhileRequested,
+    ReturnInAnyOrder,
+    OnlyNextWay,
+    CallsOffWithNothingFirm,
+    WaitsAtTheEnd,
+    NeverChangesState,
+}
+
+struct Faulty(Fault);
+
+/// A check with its own idea of where a loss strands.
+fn other_check(sheet: &[u8], strands: fn(&Network, usize, usize) -> bool) -> u32 {
+    let answer = calls::check(sheet);
+    if kind_of(answer) == 0 && refusal_of(answer) != 8 {
+        return answer;
+    }
+    let network = Network::new(plan::read(sheet).unwrap());
+    for way in network.plan.way_numbers() {
+        for &x in network.plan.way(way) {
+            if network.plan.kind(x).is_exposed() && strands(&network, way, x) {
+                return pack(0, 8, (way * 256 + x) as u32);
+            }
+        }
+    }
+    pack(6, 0, 0)
+}
+
+fn strands_without_repeatables(network: &Network, way: usize, x: usize) -> bool {
+    let plan = &network.plan;
+    let pivots = check::firm_beside(network, way, x).into_iter().filter(|&s| plan.kind(s) == Kind::Pivot);
+    let pivots: Vec<usize> = pivots.collect();
+    let settled =
+        |y: usize| network.precedes(y, x) || pivots.iter().all(|&s| y == s || network.precedes(y, s));
+    let refuge = |j: usize| {
+        pivots.iter().all(|&s| plan.is_in_way(s, j))
+            && plan.way(j).iter().all(|&y| !plan.kind(y).is_exposed() || settled(y))
+    };
+    !pivots.is_empty() && !(way + 1..=plan.ways.len()).any(refuge)
+}
+
+fn strands_without_any_holder(network: &Network, way: usize, x: usize) -> bool {
+    let firm = check::firm_beside(network, way, x);
+    let holds = |j: usize| firm.iter().all(|&s| network.plan.is_in_way(s, j));
+    !firm.is_empty() && !(way + 1..=network.plan.ways.len()).any(holds)
+}
+
+/// The state, if it is sound but for one sentence that is not looked at.
+fn sound_but(network: &Network, state: &[u8], dropped: usize) -> Option<State> {
+    let state: State = state.try_into().ok()?;
+    let mut sentences = run::SENTENCES.iter().enumerate();
+    sentences.all(|(at, (_, holds))| at == dropped || holds(network, &state)).then_some(state)
+}
+
+fn firm_held(network: &Network, state: &[u8]) -> bool {
+    network.plan.bookings().any(|b| state[b] == run::HELD && network.plan.kind(b).is_firm())
+}
+
+impl Faulty {
+    fn next_order_dropping(&self, sheet: &[u8], bytes: &mut [u8], dropped: usize) -> u32 {
+        let Ok(network) = calls::judge(sheet) else { return calls::check(sheet) };
+        let Some(state) = sound_but(&network, bytes, dropped) else { return pack(0, 11, 0) };
+        match run::next_order(&network, state) {
+            (run::Order::Wait, _) => pack(3, 0, 0),
+            _ => pack(5, 0, 0),
+        }
+    }
+
+    /// What happens to the state after a reply was accepted.
+    fn after_reply(&self, network: &Network, before: &[u8], state: &mut [u8], letter: u8, booking: usize) {
+        let switched = before[0] != state[0];
+        let requested = |state: &[u8]| network.plan.bookings().any(|b| state[b] == run::REQUESTED);
+        match self.0 {
+            Fault::KeptBecomesFree if letter == b'K' => state[booking] = run::FREE,
+            Fault::RepeatableIsLost if letter == b'N' => state[booking] = run::LOST,
+            Fault::OnlyNextWay if switched && state[0] > 0 => state[0] = before[0] + 1,
+            Fault::CallsOffWithNothingFirm if switched && !firm_held(network, state) => state[0] = 0,
+            Fault::SwitchWhileRequested if letter == b'N' && requested(state) => state[0] = 0,
+            _ => {}
+        }
+    }
+}
+
+impl Campaign for Faulty {
+    fn check(&self, sheet: &[u8]) -> u32 {
+        let answer = calls::check(sheet);
+        match self.0 {
+            Fault::PassesAll if refusal_of(answer) > 3 => pack(6, 0, 0),
+            Fault::RejectsAll if kind_of(answer) == 6 => pack(0, 8, 257),
+            Fault::RepeatablesLeftOutOfS => other_check(sheet, strands_without_repeatables),
+            Fault::RefugeMayHaveLostPivot => other_check(sheet, strands_without_any_holder),
+            Fault::OneLineFeedTooManyIsRead if sheet.ends_with(b"\n\n") => {
+                calls::check(&sheet[..sheet.len() - 1])
+            }
+            Fault::StrandingPlaceTurnedRound if refusal_of(answer) == 8 => {
+                pack(0, 8, place_of(answer) % 256 * 256 + place_of(answer) / 256)
+            }
+            _ => answer,
+        }
+    }
+
+    fn start(&self, sheet: &[u8], state: &mut [u8]) -> u32 {
+        let before = state.to_vec();
+        let answer = calls::start(sheet, state);
+        match self.0 {
+            Fault::RefusedCallScribbles if kind_of(answer) == 0 => state.fill(0),
+            Fault::StartKeepsBytesPastBookings if kind_of(answer) == 6 => {
+                state[60..].copy_from_slice(&before[60..])
+            }
+            _ => {}
+        }
+        answer
+    }
+
+    fn next_order(&self, sheet: &[u8], state: &mut [u8]) -> u32 {
+        let before = state.to_vec();
+        let answer = match self.0 {
+            Fault::LongerStateIsCut if state.len() > 65 => return calls::next_order(sheet, &mut state[..65]),
+            _ => calls::next_order(sheet, state),
+        };
+        match self.0 {
+            Fault::DropsSentence(at) if refusal_of(answer) == 11 => {
+                self.next_order_dropping(sheet, state, at)
+            }
+            Fault::NeverChangesState => {
+                state.copy_from_slice(&before);
+                answer
+            }
+            Fault::WaitsAtTheEnd if kind_of(answer) == 5 => pack(3, 0, 0),
+            Fault::ReturnInAnyOrder if kind_of(answer) == 2 => {
+                state.copy_from_slice(&before);
+                let held = |&b: &usize| state[b] == run::HELD;
+                let network = calls::judge(sheet).unwrap();
+                let outside = |b: &usize| !network.plan.is_in_way(*b, before[0].into());
+                let booking = network.plan.bookings().filter(held).find(outside).unwrap();
+                state[booking] = run::RETURNING;
+                pack(2, 0, booking as u32)
+            }
+            _ => answer,
+        }
+    }
+
+    fn reply(&self, sheet: &[u8], state: &mut [u8], letter: u8, booking: u32) -> u32 {
+        let before = state.to_vec();
+        let booking = if matches!(self.0, Fault::BookingCutToByte) { booking & 255 } else { booking };
+        let answer = calls::reply(sheet, state, letter, booking);
+        match self.0 {
+            Fault::MisfitBeforeUnsound if refusal_of(answer) == 11 && !b"YNGK".contains(&letter) => {
+                return pack(0, 9, if booking <= 64 { booking } else { 0 });
+            }
+            Fault::PlaceOfBookingsAbove64 if refusal_of(answer) == 9 => return pack(0, 9, booking & 65_535),
+            _ => {}
+        }
+        if kind_of(answer) == 6 {
+            let network = calls::judge(sheet).unwrap();
+            self.after_reply(&network, &before, state, letter, booking as usize);
+        }
+        answer
+    }
+}
+
+/// Compares until something differs, for a few hundred rounds at most.
+fn is_found(fault: Fault) -> bool {
+    let faulty = Faulty(fault);
+    let mut comparison = Comparison::new(&faulty, false);
+    let mut compared = comparison.fixed_part(1);
+    for round in 0..300 {
+        if compared.is_ok() && round % 16 != 15 {
+            compared = comparison.round(1, round);
+        }
+    }
+    compared.is_err()
+}
+
+#[test]
+fn the_second_version_does_not_differ_from_itself() {
+    assert!(!is_found(Fault::None));
+}
+
+#[test]
+fn wrong_checks_are_found() {
+    use Fault::*;
+    for fault in [
+        PassesAll,
+        RejectsAll,
+        RepeatablesLeftOutOfS,
+        RefugeMayHaveLostPivot,
+        OneLineFeedTooManyIsRead,
+        StrandingPlaceTurnedRound,
+    ] {
+        assert!(is_found(fault), "{fault:?}");
+    }
+}
+
+#[test]
+fn each_sentence_of_soundness_is_missed() {
+    for at in 0..run::SENTENCES.len() {
+        assert!(is_found(Fault::DropsSentence(at)), "{}", run::SENTENCES[at].0);
+    }
+}
+
+#[test]
+fn wrong_runs_are_found() {
+    use Fault::*;
+    let runs = [
+        KeptBecomesFree,
+        RepeatableIsLost,
+        SwitchWhileRequested,
+        ReturnInAnyOrder,
+        OnlyNextWay,
+        CallsOffWithNothingFirm,
+        WaitsAtTheEnd,
+        NeverChangesState,
+    ];
+    let bytes = [
+        LongerStateIsCut,
+        MisfitBeforeUnsound,
+        BookingCutToByte,
+        PlaceOfBookingsAbove64,
+        RefusedCallScribbles,
+        StartKeepsBytesPastBookings,
+    ];
+    for fault in runs.into_iter().chain(bytes) {
+        assert!(is_found(fault), "{fault:?}");
+    }
+}
