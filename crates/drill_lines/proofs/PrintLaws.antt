@@ -5,8 +5,8 @@ use mathlib.Core.Path.{_≡_, refl, sym, _∙_}
 use mathlib.Core.List.{List, [], _∷_, _++_}
 use mathlib.Core.Bool.{Bool, true, false, cond}
 use native.Mathlib.Omega.{arith}
-use lib.ListN.{length}
-use lib.Seq.{sets}
+use lib.ListN.{length, take}
+use lib.Seq.{sets, length-sets, length-take-le}
 use lib.Dec.{eqb, leb}
 use borrow.Author.Tests.{eq-eqb, ne-eqb, le-leb, lt-leb}
 use Rattle.decimal.specs.Decimal.{columns, columnsTo}
@@ -78,3 +78,18 @@ module _ (bits k : ℕ) (e : k ≡ kindOf bits) where
 -- what was written is the text that is to be printed
 pub printed : (d b text other : List ℕ) (n : ℕ) → text ≡ other → n ≡ length text → b ≡ sets d 0 text → (n ≡ length other) × (b ≡ sets d 0 other)
 printed d b text other n t e f = (rw (← t) e, rw (← t) f)
+
+-- the length that a writer gives counts bytes of its buffer
+counted : (d b text : List ℕ) (n : ℕ) → length text ≤ length d → n ≡ length text → b ≡ sets d 0 text → (n ≤ length b) × (n ≡ length (take n b))
+counted d b text n h e f =
+    let l : length b ≡ length d = rw f (length-sets d 0 text) in
+    let k : n ≤ length b = omega arith in
+    (k, sym (length-take-le n b k))
+
+pub answer-counts : (d b : List ℕ) (n bits : ℕ) → 12 ≡ length d → n ≡ length (printedText bits) → b ≡ sets d 0 (printedText bits)
+    → (n ≤ length b) × (n ≡ length (take n b))
+answer-counts d b n bits h = counted d b (printedText bits) n (omega (arith, printed-length bits))
+
+pub refusal-counts : (d b : List ℕ) (n refusal place : ℕ) → 12 ≡ length d → n ≡ length (refusalText refusal place) → b ≡ sets d 0 (refusalText refusal place)
+    → (n ≤ length b) × (n ≡ length (take n b))
+refusal-counts d b n refusal place h = counted d b (refusalText refusal place) n (omega (arith, refusal-length refusal place))
