@@ -5,7 +5,7 @@ use mathlib.Core.Path.{_≡_, sym, ap, _∙_}
 use mathlib.Core.List.{List, _++_}
 use lib.ListN.{take, drop, take-append-drop}
 use lib.Seq.{drop-drop}
-use Rattle.decimal.specs.Decimal.{columns, valueOf, fieldOf, fieldAt, numberAt}
+use Rattle.decimal.specs.Decimal.{columns, fieldAt, numberAt}
 use Rattle.decimal.specs.declared.Field.{Field}
 use Rattle.decimal.specs.declared.Field.the-variants.{Number, Fault}
 use Rattle.decimal.proofs.Laws.{Reads, read-written, value-written, columns-no-fault}

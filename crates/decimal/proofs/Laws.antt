@@ -59,7 +59,6 @@ value-front (suc w) a b h = rw (value-front w a b (omega arith), List·getD-appe
 value-last : (last : Bool) (w x : ℕ) → valueOf (suc w) (columnsTo last (suc w) x) ≡ valueOf w (columnsTo false w (x / 10)) * 10 + x % 10
 unfolding valueOf columnsTo
 value-last last w x =
-    let a : List ℕ = columnsTo false w (x / 10) in
     let n : w ≤ length (columnsTo false w (x / 10)) = omega (arith, to-length false w (x / 10)) in
     let d : getD (columnsTo false w (x / 10) ++ (column last x ∷ [])) w 0 ≡ column last x =
     getD-at (columnsTo false w (x / 10)) (column last x) [] 0 w (to-length false w (x / 10)) in
@@ -122,8 +121,6 @@ each-column : (last : Bool) (w : ℕ) (s : List ℕ) → w ≤ length s → take
 unfolding columnsTo valueOf
 each-column last zero s n e i h = absurd (omega arith)
 each-column last (suc w) s n e i h =
-    let v : ℕ = valueOf (suc w) s in
-    let a : List ℕ = columnsTo false w (valueOf (suc w) s / 10) in
     let l : length (columnsTo false w (valueOf (suc w) s / 10)) ≡ w = to-length false w (valueOf (suc w) s / 10) in
     let b : getD s w 0 ≡ column last (valueOf (suc w) s) =
     sym (getD-take (suc w) s w 0 (omega arith))
@@ -183,12 +180,13 @@ number-read w s i x n h k v t =
     let y : sameBytes s (columns w (valueOf w s)) ≡ true = rw (← f) (same-refl s) in
     rw (y, x′)
 
--- twelve bytes of any values stay far below 2 ^ 64
+-- bytes of any values stay below twice ten to their number
 value-bound : (w : ℕ) (s : List ℕ) → 3 * valueOf w s + 5 ≤ 5 * 10 ^ w
 unfolding valueOf
 value-bound zero s = omega arith
 value-bound (suc w) s = rw pow-suc (omega (arith, value-bound w s))
 
+-- so up to twelve of them leave room in 64 bits
 pub room : (w : ℕ) (s : List ℕ) (x : ℕ) → w ≤ 12 → x ≡ valueOf w s → x < 2 * 10 ^ 12
 room w s x h e = omega (arith, value-bound w s, pow-le-pow-right {n = 10} (omega arith) {i = w} {j = 12} h)
 

@@ -1,5 +1,4 @@
--- The laws of `sets`, bytes stored one after the other from a place on. None has a condition on lengths but the last: what lies
--- past the end is not stored.
+-- The laws of `sets`, bytes stored one after the other from a place on; what lies past the end is not stored.
 -- Assumes nothing.
 use Prim.Native.Nat.{ℕ, suc, _+_, _≤_, _<_}
 use mathlib.Core.Path.{_≡_, refl, ap, _∙_}

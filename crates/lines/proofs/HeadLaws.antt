@@ -1,9 +1,9 @@
 -- What a reader of the head line has in hand at each of its returns, and what that says of `headOf`.
 -- Assumes nothing.
 use Prim.Native.Nat.{ℕ}
-use mathlib.Core.Path.{_≡_, refl, sym, ap, _∙_}
+use mathlib.Core.Path.{_≡_, refl, _∙_}
 use mathlib.Core.List.{List, [], _∷_, _++_}
-use mathlib.Core.Bool.{Bool, true, false, not, cond}
+use mathlib.Core.Bool.{Bool, true, false, not}
 use native.Mathlib.Omega.{arith}
 use lib.ListN.{drop}
 use Rattle.bounded.proofs.Bools.{not-t, not-f}
@@ -15,7 +15,6 @@ use Rattle.decimal.proofs.Fields.{fault-in, number-is, field-then}
 use Rattle.plan.specs.Limits.{limits}
 use Rattle.lines.specs.Form.{isFramed}
 use Rattle.lines.specs.Head.{headText, isHead, countsOf, headOf}
-use Rattle.lines.specs.declared.Head.{Head}
 use Rattle.lines.specs.declared.Head.the-variants.{Counts, Malformed, OutOfLimits}
 use Rattle.lines.proofs.FormLaws.{Framed, framed, unframed, begun, ended-at}
 

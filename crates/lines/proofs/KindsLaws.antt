@@ -2,7 +2,7 @@
 -- left gives it, and each turn keeps that.
 -- Assumes nothing.
 use Prim.Native.Nat.{ℕ, suc, _+_, _*_, _-_, _<_, _≤_}
-use mathlib.Core.Path.{_≡_, refl, sym, ap, _∙_}
+use mathlib.Core.Path.{_≡_}
 use mathlib.Core.List.{List}
 use native.Mathlib.Omega.{arith}
 use lib.ListN.{take, drop, set}
@@ -11,7 +11,7 @@ use Rattle.lines.specs.Booking.{bookingOf}
 use Rattle.lines.specs.Kinds.{afterBooking, kindsOf}
 use Rattle.lines.specs.declared.Booking.{Booking}
 use Rattle.lines.specs.declared.Booking.the-variants.{Kind, Malformed, OutOfSequence}
-use Rattle.lines.specs.declared.Judged.the-variants.{Fine, Form, Sequence}
+use Rattle.plan.specs.declared.Judged.the-variants.{Fine, Form, Sequence}
 use Rattle.lines.specs.declared.Kinds.{Kinds}
 
 -- one line, and the rest

@@ -4,5 +4,6 @@ pub mod BookingLaws
 pub mod LinkLaws
 pub mod KindsLaws
 pub mod LinksLaws
-pub mod WriteLaws
-pub mod Filled
+pub mod Lengths
+pub mod RoundTrip
+pub mod AllLines

@@ -1,9 +1,9 @@
 -- What a reader of a link's line has in hand at each of its returns, and what that says of `linkOf`.
 -- Assumes nothing.
 use Prim.Native.Nat.{ℕ, _≤_}
-use mathlib.Core.Path.{_≡_, refl, sym, ap, _∙_}
+use mathlib.Core.Path.{_≡_, refl, sym, _∙_}
 use mathlib.Core.List.{List, [], _∷_, _++_}
-use mathlib.Core.Bool.{Bool, true, false, not, cond}
+use mathlib.Core.Bool.{Bool, true, false, not}
 use native.Mathlib.Omega.{arith}
 use lib.ListN.{drop}
 use Rattle.bounded.proofs.Bools.{and-l, and-r, not-t, not-f}
@@ -16,7 +16,6 @@ use Rattle.plan.specs.Limits.{within, inSequence}
 use Rattle.plan.proofs.LimitLaws.{within-hi}
 use Rattle.lines.specs.Form.{isFramed}
 use Rattle.lines.specs.Link.{linkText, isLink, pairOf, linkOf}
-use Rattle.lines.specs.declared.Link.{Link}
 use Rattle.lines.specs.declared.Link.the-variants.{Pair, Malformed, OutOfSequence}
 use Rattle.lines.proofs.FormLaws.{Framed, framed, unframed, begun, ended-at}
 

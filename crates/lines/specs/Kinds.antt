@@ -7,7 +7,7 @@ use Rattle.plan.specs.Limits.{mostBookings}
 use Rattle.lines.specs.Booking.{bookingText, bookingOf}
 use Rattle.lines.specs.declared.Booking.{Booking}
 use Rattle.lines.specs.declared.Booking.the-variants.{Kind, Malformed, OutOfSequence}
-use Rattle.lines.specs.declared.Judged.the-variants.{Fine, Form, Sequence}
+use Rattle.plan.specs.declared.Judged.the-variants.{Fine, Form, Sequence}
 use Rattle.lines.specs.declared.Kinds.{Kinds}
 
 -- the lines of so many bookings, from the booking at index i on

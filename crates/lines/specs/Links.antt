@@ -7,7 +7,7 @@ use Rattle.plan.specs.Limits.{mostLinks}
 use Rattle.lines.specs.Link.{linkText, linkOf}
 use Rattle.lines.specs.declared.Link.{Link}
 use Rattle.lines.specs.declared.Link.the-variants.{Pair, Malformed, OutOfSequence}
-use Rattle.lines.specs.declared.Judged.the-variants.{Fine, Form, Sequence}
+use Rattle.plan.specs.declared.Judged.the-variants.{Fine, Form, Sequence}
 use Rattle.lines.specs.declared.Links.{Links}
 
 -- the lines of so many links, from the link at index i on

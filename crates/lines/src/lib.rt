@@ -1,17 +1,16 @@
-// The lines of a fixed width of a plan sheet: the head, the bookings, the links. Each is read from a part of the sheet, and written
-// into a lent buffer.
+// The lines of a fixed width of a plan sheet: the head, the bookings, the links. Each is read from a part of the sheet.
 use decimal::Field;
+use plan::Judged;
 ghost use mathlib.Core.Path.{_≡_};
-ghost use Prim.Native.Nat.{_+_, _*_, _≤_, _<_};
-ghost use lib.ListN.{length, drop};
-ghost use lib.Seq.{sets};
+ghost use Prim.Native.Nat.{_≤_, _<_};
+ghost use lib.ListN.{drop};
 ghost use Rattle.plan.specs.Limits.{mostBookings, mostLinks};
 ghost use Rattle.lines.specs.Form.{isFramed};
-ghost use Rattle.lines.specs.Head.{headText, headOf};
-ghost use Rattle.lines.specs.Booking.{bookingText, bookingOf};
-ghost use Rattle.lines.specs.Link.{linkText, linkOf};
-ghost use Rattle.lines.specs.Kinds.{kindsText, kindsOf, noKinds};
-ghost use Rattle.lines.specs.Links.{linksText, linksOf, noLinks};
+ghost use Rattle.lines.specs.Head.{headOf};
+ghost use Rattle.lines.specs.Booking.{bookingOf};
+ghost use Rattle.lines.specs.Link.{linkOf};
+ghost use Rattle.lines.specs.Kinds.{kindsOf, noKinds};
+ghost use Rattle.lines.specs.Links.{linksOf, noLinks};
 
 // What the head line holds: the counts of bookings, links and ways, or why it is refused.
 pub enum Head {
@@ -32,14 +31,6 @@ pub enum Link {
     Pair(u8, u8),
     Malformed,
     OutOfSequence,
-}
-
-// What the lines read so far are: fine, or refused for their form, a count or a number, with the line.
-pub enum Judged {
-    Fine,
-    Form(usize),
-    Count(usize),
-    Sequence(usize),
 }
 
 // The kinds that the lines of the bookings give; up to the refused line, if one is.
@@ -148,15 +139,24 @@ pub fn read_kinds(s: &[u8], at: usize, n: usize) -> Kinds
                 kind[i] = k;
             }
             Booking::Malformed => {
-                return Kinds { judged: Judged::Form(i + 2), kind };
+                return Kinds {
+                    judged: Judged::Form(i + 2),
+                    kind,
+                };
             }
             Booking::OutOfSequence => {
-                return Kinds { judged: Judged::Sequence(i + 2), kind };
+                return Kinds {
+                    judged: Judged::Sequence(i + 2),
+                    kind,
+                };
             }
         }
         i += 1;
     }
-    Kinds { judged: Judged::Fine, kind }
+    Kinds {
+        judged: Judged::Fine,
+        kind,
+    }
 }
 
 // Reads the lines of m links, which start at at, in a plan of n bookings.
@@ -179,74 +179,25 @@ pub fn read_links(s: &[u8], at: usize, n: usize, m: usize) -> Links
                 pv = v as usize;
             }
             Link::Malformed => {
-                return Links { judged: Judged::Form(n + 2 + i), from, to };
+                return Links {
+                    judged: Judged::Form(n + 2 + i),
+                    from,
+                    to,
+                };
             }
             Link::OutOfSequence => {
-                return Links { judged: Judged::Sequence(n + 2 + i), from, to };
+                return Links {
+                    judged: Judged::Sequence(n + 2 + i),
+                    from,
+                    to,
+                };
             }
         }
         i += 1;
     }
-    Links { judged: Judged::Fine, from, to }
-}
-
-// Writes the head line at the front.
-pub fn write_head(buf: &mut [u8], n: usize, m: usize, a: usize)
-    requires { ⌜ 14 ≤ length (now buf) ⌝ }
-    ensures { λ _. ⌜ now (buf .exit) ≡ sets (now (buf .entry)) 0 (headText n m a) ⌝ }
-{
-    decimal::write_byte(buf, 0, b'P');
-    decimal::write_field(buf, 1, 4, n);
-    decimal::write_field(buf, 5, 4, m);
-    decimal::write_field(buf, 9, 4, a);
-    decimal::write_byte(buf, 13, 10);
-}
-
-// Writes the line of booking number x, of kind k, from at on.
-pub fn write_booking(buf: &mut [u8], at: usize, x: usize, k: u8)
-    requires { ⌜ at + 8 ≤ length (now buf) ⌝ }
-    ensures { λ _. ⌜ now (buf .exit) ≡ sets (now (buf .entry)) at (bookingText x k) ⌝ }
-{
-    decimal::write_byte(buf, at, b'B');
-    decimal::write_field(buf, at + 1, 4, x);
-    decimal::write_byte(buf, at + 5, b' ');
-    decimal::write_byte(buf, at + 6, k);
-    decimal::write_byte(buf, at + 7, 10);
-}
-
-// Writes the line of the link from u to v from at on.
-pub fn write_link(buf: &mut [u8], at: usize, u: usize, v: usize)
-    requires { ⌜ at + 10 ≤ length (now buf) ⌝ }
-    ensures { λ _. ⌜ now (buf .exit) ≡ sets (now (buf .entry)) at (linkText u v) ⌝ }
-{
-    decimal::write_byte(buf, at, b'L');
-    decimal::write_field(buf, at + 1, 4, u);
-    decimal::write_field(buf, at + 5, 4, v);
-    decimal::write_byte(buf, at + 9, 10);
-}
-
-// Writes the lines of the bookings 1 to n from at on.
-pub fn write_kinds(buf: &mut [u8], at: usize, n: usize, kind: [u8; 64])
-    requires { ⌜ (n ≤ mostBookings) × (at + 8 * n ≤ length (now buf)) ⌝ }
-    ensures { λ _. ⌜ now (buf .exit) ≡ sets (now (buf .entry)) at (kindsText n 0 kind) ⌝ }
-{
-    let mut i = 0;
-    while i < n {
-        write_booking(buf, at + 8 * i, i + 1, kind[i]);
-        i += 1;
-    }
-}
-
-// Writes the lines of m links from at on.
-pub fn write_links(buf: &mut [u8], at: usize, m: usize, from: [u8; 512], to: [u8; 512])
-    requires { ⌜ (m ≤ mostLinks) × (at + 10 * m ≤ length (now buf)) ⌝ }
-    ensures { λ _. ⌜ now (buf .exit) ≡ sets (now (buf .entry)) at (linksText m 0 from to) ⌝ }
-{
-    let mut i = 0;
-    while i < m {
-        let u = from[i] as usize;
-        let v = to[i] as usize;
-        write_link(buf, at + 10 * i, u, v);
-        i += 1;
+    Links {
+        judged: Judged::Fine,
+        from,
+        to,
     }
 }

@@ -51,7 +51,7 @@ fine-counts p = go (countsFit p)
     go true e = refl
     go false e = cc
 
-fine-entries : (p : Plan) → recordOf p ≡ Fine → entriesFit p ≡ true
+pub fine-entries : (p : Plan) → recordOf p ≡ Fine → entriesFit p ≡ true
 unfolding recordOf
 fine-entries p = go (countsFit p) (entriesFit p)
   where

@@ -4,7 +4,7 @@ ghost use Prim.Native.Nat.{_^_, _≤_};
 ghost use lib.Dec.{ltb};
 ghost use Rattle.bounded.specs.Bounded.{all};
 ghost use Rattle.sets.specs.Sets.{sizeOf};
-ghost use Rattle.plan.specs.Limits.{isKind, within, counted, limits, rises, inSequence};
+ghost use Rattle.plan.specs.Limits.{mostBookings, mostLinks, mostWays, isKind, within, counted, limits, rises, inSequence};
 ghost use Rattle.plan.specs.Judging.{isFine};
 ghost use Rattle.plan.specs.Record.{kindAt, linkAt, countAt, withinAt, countsFit, entriesFit, recordOf};
 
@@ -118,7 +118,7 @@ pub fn in_sequence(n: usize, pu: usize, pv: usize, u: usize, v: usize) -> bool
 
 // Whether each of the first n kinds is one.
 pub fn kinds_known(n: usize, kind: [u8; 64]) -> bool
-    requires { ⌜ n ≤ 64 ⌝ }
+    requires { ⌜ n ≤ mostBookings ⌝ }
     ensures { λ r. ⌜ r ≡ all (kindAt kind) n ⌝ }
 {
     let mut b = 0;
@@ -133,7 +133,7 @@ pub fn kinds_known(n: usize, kind: [u8; 64]) -> bool
 
 // Whether the first m links join bookings of n and rise strictly.
 pub fn links_rise(n: usize, m: usize, from: [u8; 512], to: [u8; 512]) -> bool
-    requires { ⌜ m ≤ 512 ⌝ }
+    requires { ⌜ m ≤ mostLinks ⌝ }
     ensures { λ r. ⌜ r ≡ all (linkAt n from to) m ⌝ }
 {
     let mut pu = 0;
@@ -161,7 +161,7 @@ pub fn has_count(x: u64, n: usize) -> bool
 
 // Whether each of the first a ways has 1 to n bookings.
 pub fn counts_fit(n: usize, a: usize, way: [u64; 16]) -> bool
-    requires { ⌜ a ≤ 16 ⌝ }
+    requires { ⌜ a ≤ mostWays ⌝ }
     ensures { λ r. ⌜ r ≡ all (countAt n way) a ⌝ }
 {
     let mut k = 0;
@@ -176,7 +176,7 @@ pub fn counts_fit(n: usize, a: usize, way: [u64; 16]) -> bool
 
 // Whether x has no member from n on.
 pub fn is_below(x: u64, n: usize) -> bool
-    requires { ⌜ n ≤ 64 ⌝ }
+    requires { ⌜ n ≤ mostBookings ⌝ }
     ensures { λ r. ⌜ r ≡ ltb x (2 ^ n) ⌝ }
 {
     if n == 64 {
@@ -187,7 +187,7 @@ pub fn is_below(x: u64, n: usize) -> bool
 
 // Whether each of the first a ways has bookings of n alone.
 pub fn ways_fit(n: usize, a: usize, way: [u64; 16]) -> bool
-    requires { ⌜ (n ≤ 64) × (a ≤ 16) ⌝ }
+    requires { ⌜ (n ≤ mostBookings) × (a ≤ mostWays) ⌝ }
     ensures { λ r. ⌜ r ≡ all (withinAt n way) a ⌝ }
 {
     let mut k = 0;
@@ -213,7 +213,7 @@ pub fn record_counts(p: Plan) -> bool
 
 // Whether every entry of p is fine.
 pub fn record_entries(p: Plan) -> bool
-    requires { ⌜ (p .n ≤ 64) × (p .m ≤ 512) × (p .a ≤ 16) ⌝ }
+    requires { ⌜ (p .n ≤ mostBookings) × (p .m ≤ mostLinks) × (p .a ≤ mostWays) ⌝ }
     ensures { λ r. ⌜ r ≡ entriesFit p ⌝ }
 {
     let kind = p.kind;

@@ -61,7 +61,7 @@ liveIn l f ways k = not (not (disjointFrom (getD ways k 0) l)) && subsetOf f (ge
 
 module _ (g : Network) (r : Run) (l f : ℕ) (el : l ≡ gather (is r 3) (g .n)) (ef : f ≡ heldFirm g r) where
   pub live-in : (k : ℕ) → liveIn l f (g .way) k ≡ liveAt g r k
-  unfolding liveIn liveAt live lostIn lost coded wayOf
+  unfolding liveIn liveAt live lostIn coded wayOf
   live-in k = ap₂ (λ (a b : ℕ). not (not (disjointFrom (getD (g .way) k 0) a)) && subsetOf b (getD (g .way) k 0)) el ef
 
   live-far : (k : ℕ) → So-far (liveIn l f (g .way)) k → So-far (liveAt g r) k
@@ -117,13 +117,13 @@ module _ (g : Network) (r : Run) where
       (λ v k. ap (λ (t : Bool). t && member (getD (g .before) v 0) b) (busy-at p q v ep eq k)))
 
   pub ready-is : (p s : ℕ) → p ≡ gather (is r 2) (g .n) → s ≡ gather (readyIn p (g .before)) (g .n) → s ≡ gather (ready g r) (g .n)
-  unfolding readyIn ready held coded before
+  unfolding readyIn ready coded before
   ready-is p s ep e = rw (ep) at e
 
   -- rule 2, as one set
   pub return-is : (x h w s : ℕ) → h ≡ gather (is r 2) (g .n) → w ≡ wayOf g (r .way) → s ≡ gather (needed g r) 64
       → x ≡ first (member (without (without h w) s)) 64 → x ≡ first (toReturn g r) 64
-  unfolding toReturn held coded inWay
+  unfolding toReturn coded inWay
   return-is x h w s eh ew es e =
       e ∙ first-ext (member (without (without h w) s)) (toReturn g r) 64
       (λ i l. member-without (without h w) s i l
@@ -133,7 +133,7 @@ module _ (g : Network) (r : Run) where
 
   -- rule 4, as one set
   request-at : (i : ℕ) → (member (gather (is r 0) (g .n)) i && member (wayOf g (r .way)) i) && member (gather (ready g r) (g .n)) i ≡ toRequest g r i
-  unfolding toRequest free coded inWay
+  unfolding toRequest coded inWay
   request-at i = elim (which (member (gather (is r 0) (g .n)) i)) [
     | inl e ↦ and-assoc (member (gather (is r 0) (g .n)) i) (member (wayOf g (r .way)) i) (member (gather (ready g r) (g .n)) i)
         ∙ ap (λ (t : Bool). member (gather (is r 0) (g .n)) i && (member (wayOf g (r .way)) i && t)) (member-gather (ready g r) (g .n) i (member-low (is r 0) (g .n) i e))

@@ -30,7 +30,7 @@ some-f s t p z = rw (← p) (ap not (eq-eqb s 0 z))
 
 -- ---- next order: what is left once the rules before have not applied
 
-module _ (r : Run) where
+module _ (g : Network) (r : Run) where
   abbrev pub rule6 : Ordered
   rule6 = still (ending (r .way)) r
 
@@ -42,9 +42,8 @@ module _ (r : Run) where
   unfolding ending
   end-flown d = rw (ne-eqb (r .way) 0 d)
 
-module _ (g : Network) (r : Run) where
   unfoldable pub rule5 : Ordered
-  rule5 = cond (some (requested g r)) (still Wait r) (rule6 r)
+  rule5 = cond (some (requested g r)) (still Wait r) rule6
 
   unfoldable pub rule4 : Ordered
   rule4 = let y = first (toRequest g r) 64 in cond (ltb y 64) (record { order = Request y; run = put r y 1 }) rule5
@@ -74,11 +73,11 @@ module _ (g : Network) (r : Run) where
 
   module _ (s : ℕ) (es : s ≡ gather (is r 4) (g .n)) where
     pub return-wait : s ≢ 0 → still Wait r ≡ rule3
-    unfolding rule3 returning coded
+    unfolding rule3 coded
     return-wait d = rw (some-t s (gather (is r 4) (g .n)) es d)
 
     pub past-3 : s ≡ 0 → rule4 ≡ rule3
-    unfolding rule3 returning coded
+    unfolding rule3 coded
     past-3 z = rw (some-f s (gather (is r 4) (g .n)) es z)
 
   module _ (y : ℕ) (ey : y ≡ first (toRequest g r) 64) where
@@ -92,28 +91,28 @@ module _ (g : Network) (r : Run) where
 
   module _ (s : ℕ) (es : s ≡ gather (is r 1) (g .n)) where
     pub request-wait : s ≢ 0 → still Wait r ≡ rule5
-    unfolding rule5 requested coded
+    unfolding rule5 coded
     request-wait d = rw (some-t s (gather (is r 1) (g .n)) es d)
 
-    pub past-5 : s ≡ 0 → rule6 r ≡ rule5
-    unfolding rule5 requested coded
+    pub past-5 : s ≡ 0 → rule6 ≡ rule5
+    unfolding rule5 coded
     past-5 z = rw (some-f s (gather (is r 1) (g .n)) es z)
 
     pub settle-wait : s ≢ 0 → r ≡ settle g r
-    unfolding settle toSwitch requested coded
+    unfolding settle toSwitch coded
     settle-wait d = rw (some-t s (gather (is r 1) (g .n)) es d)
 
     pub settle-turn : s ≡ 0 → lostIn g r (r .way) ≡ true → (w : ℕ) → w ≡ firstLive g r → turn r w ≡ settle g r
-    unfolding settle toSwitch requested coded
+    unfolding settle toSwitch coded
     settle-turn z l w p = rw (some-f s (gather (is r 1) (g .n)) es z, l, p)
 
     pub settle-stay : s ≡ 0 → lostIn g r (r .way) ≡ false → r ≡ settle g r
-    unfolding settle toSwitch requested coded
+    unfolding settle toSwitch coded
     settle-stay z l = rw (some-f s (gather (is r 1) (g .n)) es z, l)
 
-  -- the rules from one on give the next order
-  abbrev pub Leads : Ordered → Type 0
-  Leads o = o ≡ next g r
+-- the rules from one on give the next order
+abbrev pub Leads : (Network → Run → Ordered) → Network → Run → Type 0
+Leads rule g r = rule g r ≡ next g r
 
 -- ---- a reply
 

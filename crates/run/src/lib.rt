@@ -128,7 +128,8 @@ impl Run {
         let lost = self.coded(g.n, 3);
         let firm = self.held_firm(g);
         let ways = g.way;
-        for k in 0..g.a {
+        let a = g.a;
+        for k in 0..a {
             if is_live(ways[k], lost, firm) {
                 return (k + 1) as u8;
             }
@@ -226,7 +227,8 @@ impl Run {
                 run: self.put(y, 1),
             };
         }
-        if self.coded(g.n, 1) != 0 {
+        let deciding = self.coded(g.n, 1);
+        if deciding != 0 {
             return self.still(Order::Wait);
         }
         if self.way == 0 {

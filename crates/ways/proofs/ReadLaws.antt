@@ -1,11 +1,10 @@
 -- What the readers of a way line have in hand at each of their returns, and in a turn of their loops.
 -- Assumes nothing.
-use mathlib.Core.Path.{_≡_, refl, sym, ap, _∙_}
+use mathlib.Core.Path.{_≡_, refl, sym, _∙_}
 use mathlib.Core.Bool.{Bool, true, false, not, cond}
 use mathlib.Core.List.{List, [], _∷_}
 use Prim.Native.Nat.{ℕ, suc, _+_, _*_, _-_, _≤_, _<_}
 use native.Mathlib.Omega.{arith}
-use lib.Dec.{eqb}
 use lib.ListN.{length, getD, take, drop, set, List·getD-eq-default}
 use lib.Seq.{drop-drop, getD-drop}
 use borrow.Author.Tests.{eq-eqb, ne-eqb}
@@ -142,18 +141,9 @@ module _ (n at : ℕ) (s front : List ℕ) (f : Field) (p : front ≡ take 5 (dr
       no-end x = rw (by-count, g, ← t, not-f b q, fed, not-t d x)
 
       module _ (x : not d ≡ false) (h : Gathered) (y : h ≡ gatherOf n 0 0 k (drop (at + 5) s)) where
-        by-set : wayOf n (drop at s) ≡ asWay k h
+        pub by-set : wayOf n (drop at s) ≡ asWay k h
         unfolding membersOf
         by-set = rw (by-count, g, ← t, not-f b q, fed, not-f d x, drop-drop 5 at s, y)
-
-        pub the-members : (m : ℕ) → h ≡ G.Set m → Members k m ≡ wayOf n (drop at s)
-        the-members m i = rw (by-set, i)
-
-        pub no-form : h ≡ G.Malformed → Malformed ≡ wayOf n (drop at s)
-        no-form i = rw (by-set, i)
-
-        pub no-sequence : h ≡ G.OutOfSequence → OutOfSequence ≡ wayOf n (drop at s)
-        no-sequence i = rw (by-set, i)
 
 -- ---- a line that is accepted has at most n bookings
 

@@ -5,13 +5,12 @@ use mathlib.Core.Logic.{inl, inr}
 use mathlib.Core.Bool.{Bool, true, false, cond}
 use mathlib.Core.List.{List, [], _∷_, _++_, append-nil, append-assoc}
 use Prim.Native.Nat.{ℕ, zero, suc, _+_, _*_, _-_, _≤_, _<_}
-use native.Mathlib.Nat.{eq-or-lt-of-le, le-refl}
+use native.Mathlib.Nat.{eq-or-lt-of-le, le-refl, mul-suc}
 use native.Mathlib.Numerals.{add-one}
 use native.Mathlib.Omega.{arith}
 use lib.ListN.{length, getD, length-append}
 use lib.Seq.{sets}
 use Rattle.bounded.specs.Bounded.{one, sum, count, listed}
-use Rattle.bounded.proofs.Bools.{which}
 use Rattle.bounded.proofs.Sums.{count-sum, count-le}
 use Rattle.bounded.proofs.Lists.{listed-length}
 use Rattle.sets.specs.Sets.{member, sizeOf}
@@ -29,6 +28,11 @@ sum-upto f i (suc n) h = elim (eq-or-lt-of-le h) [ inl e ↦ rw e (le-refl (sum 
 
 pub count-upto : (f : ℕ → Bool) (i n : ℕ) → i ≤ n → count f i ≤ count f n
 count-upto f i n h = omega (arith, count-sum f i, count-sum f n, sum-upto (λ k. one (f k)) i n h)
+
+sum-most : (f : ℕ → ℕ) (n a : ℕ) → ((k : ℕ) → k < a → f k ≤ n) → sum f a ≤ n * a
+unfolding sum
+sum-most f n zero h = omega arith
+sum-most f n (suc a) h = let p : n * suc a ≡ n * a + n = mul-suc n a in omega (arith, sum-most f n a (λ k l. h k (omega arith)), h a (le-refl (suc a)))
 
 pub size-small : (s : ℕ) → sizeOf s ≤ 64
 unfolding sizeOf
@@ -147,6 +151,11 @@ length-step ws i = rw add-one (omega arith)
 pub length-upto : (ws : List ℕ) (i a : ℕ) → i ≤ a → waysLength i ws ≤ waysLength a ws
 unfolding waysLength
 length-upto ws i a h = omega (arith, sum-upto (sizeAt ws) i a h)
+
+-- the longest lines: n bookings in each way
+pub length-most : (n a : ℕ) (ws : List ℕ) → ((k : ℕ) → k < a → sizeOf (getD ws k 0) ≤ n) → waysLength a ws ≤ 6 * a + 4 * (n * a)
+unfolding waysLength sizeAt
+length-most n a ws h = omega (arith, sum-most (sizeAt ws) n a h)
 
 pub size-next : (ws : List ℕ) (i total k : ℕ) → total ≡ waysLength i ws → k ≡ sizeOf (getD ws i 0) → total + 6 + 4 * k ≡ waysLength (i + 1) ws
 size-next ws i total k e f = omega (arith, length-step ws i)

@@ -1,5 +1,6 @@
 -- Reading a way line: the letter and the count for form, the count for its limits, then the rest of the line for form, and last
--- the numbers for their sequence. Document order: a count that is outside its limits is told before anything that follows it.
+-- the numbers for their sequence. So a count outside its limits is told before anything that follows it, and a surplus number is a
+-- fault of form.
 -- Assumes nothing.
 use mathlib.Core.Bool.{Bool, true, false, cond}
 use mathlib.Core.List.{List}
@@ -44,7 +45,7 @@ gatherOf n last s zero fields = G.Set s
 gatherOf n last s (suc k) fields =
     afterNumber (fieldAt 4 0 fields) n last (brokenOf k (drop 4 fields)) (λ x. gatherOf n x (insert s (x - 1)) k (drop 4 fields))
 
--- the line feed after k numbers
+-- a line feed stands at a place of the rest
 unfoldable pub fedAt : ℕ → List ℕ → Bool
 fedAt at rest = eqb (getD rest at 0) 10
 

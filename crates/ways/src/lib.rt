@@ -8,6 +8,7 @@ ghost use lib.ListN.{length, getD, drop};
 ghost use lib.Seq.{sets};
 ghost use Rattle.bounded.specs.Bounded.{one, all};
 ghost use Rattle.sets.specs.Sets.{member, sizeOf};
+ghost use Rattle.plan.specs.Limits.{mostBookings, mostWays};
 ghost use Rattle.decimal.specs.Decimal.{fieldAt};
 ghost use Rattle.ways.specs.WayText.{members, numbersText, memberText, wayText, waysText, waysLength};
 ghost use Rattle.ways.specs.Way.{countOf, isNumber, numberThere, brokenOf, gatherOf, fedAt, wayOf};
@@ -60,7 +61,7 @@ pub fn is_number(s: &[u8], at: usize) -> bool
 
 // Whether the k fields from at on are numbers.
 pub fn are_numbers(s: &[u8], at: usize, k: usize) -> bool
-    requires { ⌜ (k ≤ 64) × (at < 65536) ⌝ }
+    requires { ⌜ (k ≤ mostBookings) × (at < 65536) ⌝ }
     ensures { λ r. ⌜ r ≡ all (numberThere (drop at (now (s .entry)))) k ⌝ }
 {
     let mut j = 0;
@@ -75,7 +76,7 @@ pub fn are_numbers(s: &[u8], at: usize, k: usize) -> bool
 
 // What a line is that has a number out of sequence, with the k fields from at on after it.
 pub fn broken(s: &[u8], at: usize, k: usize) -> Gathered
-    requires { ⌜ (k ≤ 64) × (at < 65536) ⌝ }
+    requires { ⌜ (k ≤ mostBookings) × (at < 65536) ⌝ }
     ensures { λ r. ⌜ r ≡ brokenOf k (drop at (now (s .entry))) ⌝ }
 {
     if are_numbers(s, at, k) {
@@ -86,7 +87,7 @@ pub fn broken(s: &[u8], at: usize, k: usize) -> Gathered
 
 // The set of the k numbers from at on, which are to rise strictly and to be at most n.
 pub fn gather(s: &[u8], at: usize, k: usize, n: usize) -> Gathered
-    requires { ⌜ (k ≤ 64) × (n ≤ 64) × (at < 32768) ⌝ }
+    requires { ⌜ (k ≤ mostBookings) × (n ≤ mostBookings) × (at < 32768) ⌝ }
     ensures { λ r. ⌜ r ≡ gatherOf n 0 0 k (drop at (now (s .entry))) ⌝ }
 {
     let mut set = 0u64;
@@ -118,7 +119,7 @@ pub fn is_fed(s: &[u8], at: usize) -> bool
 
 // Reads the way line that starts at at, of a plan with n bookings.
 pub fn read_way(s: &[u8], at: usize, n: usize) -> Way
-    requires { ⌜ (n ≤ 64) × (at < 32000) ⌝ }
+    requires { ⌜ (n ≤ mostBookings) × (at < 32000) ⌝ }
     ensures { λ r. ⌜ r ≡ wayOf n (drop at (now (s .entry))) ⌝ }
 {
     let Field::Number(k) = read_count(decimal::part(s, at, 5)) else {
@@ -139,7 +140,7 @@ pub fn read_way(s: &[u8], at: usize, n: usize) -> Way
 
 // Reads a way lines from at on, of a plan with n bookings; the first of them is line first.
 pub fn read_ways(s: &[u8], at: usize, n: usize, a: usize, first: usize) -> Ways
-    requires { ⌜ (n ≤ 64) × (a ≤ 16) × (at < 16384) × (first < 16384) ⌝ }
+    requires { ⌜ (n ≤ mostBookings) × (a ≤ mostWays) × (at < 16384) × (first < 16384) ⌝ }
     ensures { λ r. ⌜ r ≡ waysOf n first a 0 at (drop at (now (s .entry))) noWays ⌝ }
 {
     let mut way = [0u64; 16];
@@ -225,7 +226,7 @@ pub fn write_way(buf: &mut [u8], at: usize, s: u64) -> usize
 
 // Writes the lines of the first a ways, and gives the place after them.
 pub fn write_ways(buf: &mut [u8], at: usize, a: usize, way: [u64; 16]) -> usize
-    requires { ⌜ (a ≤ 16) × (at + waysLength a way ≤ length (now buf)) ⌝ }
+    requires { ⌜ (a ≤ mostWays) × (at + waysLength a way ≤ length (now buf)) ⌝ }
     ensures next { λ r. ⌜ r ≡ at + waysLength a way ⌝ }
     ensures text { λ _. ⌜ now (buf .exit) ≡ sets (now (buf .entry)) at (waysText a 0 way) ⌝ }
 {
@@ -240,7 +241,7 @@ pub fn write_ways(buf: &mut [u8], at: usize, a: usize, way: [u64; 16]) -> usize
 
 // How many bytes the lines of the first a ways take.
 pub fn ways_size(a: usize, way: [u64; 16]) -> usize
-    requires { ⌜ a ≤ 16 ⌝ }
+    requires { ⌜ a ≤ mostWays ⌝ }
     ensures { λ r. ⌜ r ≡ waysLength a way ⌝ }
 {
     let mut total = 0;

@@ -34,10 +34,23 @@ add-x : tie.Need-add-x Inv-loop μ-loop
 add-x c = omega (arith, roomy (c .before .before .before) (c .before .before .loop-test .taken))
 
 returns-2 : tie.Need-returns-2 Inv-loop μ-loop
-returns-2 c = search (fault-at, c .if2 .taken)
+returns-2 c =
+    let d = c .before .before in
+    let l = d .before .before .before in
+    let a = l .before .before .before .args in
+    fault-at (a .w) (now (a .s)) (l .loop .i) _ _ _ (l .before .if1 .left) (d .before .before .loop-test .taken) (l .loop .inv .1) (d .digit .ensures) (c .before .shown .ensures) (c .if2 .taken)
 
 loop-again : tie.Need-loop-again Inv-loop μ-loop
-loop-again c = (search needs, search value-turn, search column-read)
+loop-again c =
+    let d = c .before .before in
+    let l = d .before .before .before in
+    let a = l .before .before .before .args in
+    let h = d .before .before .loop-test .taken in (
+      search needs,
+      value-turn (a .w) (now (a .s)) (l .loop .i) _ _ _ (l .before .if1 .left) h (l .loop .inv .1) (d .digit .ensures) (c .before .shown .ensures),
+      column-read (a .w) (now (a .s)) (l .loop .i) _ _ _ (l .before .if1 .left) h (l .loop .inv .1) (d .digit .ensures) (c .before .shown .ensures)
+          (l .loop .inv .2) (c .if2 .left),
+    )
 
 returns-3 : tie.Need-returns-3 Inv-loop μ-loop
 returns-3 c = search number-read

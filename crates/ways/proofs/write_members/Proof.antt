@@ -5,15 +5,11 @@ use Rattle.sets.specs.Sets.{member}
 use Rattle.bounded.specs.Bounded.{count, listed}
 use lib.Seq.{sets}
 use lib.ListN.{length}
-use Prim.Native.Nat.{ℕ, _+_, _*_, _-_, _≤_}
+use Prim.Native.Nat.{_+_, _*_, _-_, _≤_}
 use mathlib.Core.Path.{_≡_, refl}
-use Rattle.ways.specs.WayText.{members}
 use Rattle.ways.specs.WayText.{numbersText}
 use Rattle.ways.proofs.write_members.Statement.{statement}
 use Rattle.ways.proofs.write_members.Tie as tie
-use Rattle.ways.proofs.write_members.Reads as reads
-use Rattle.ways.proofs.write_members.Lts as lts
-use Rattle.ways.proofs.write_member.Reads as write-member-reads
 
 abbrev Inv-loop : tie.InvT-loop
 Inv-loop buf₀ at s next₀ b₀ buf next b = (b ≤ 64) × (length buf ≡ length buf₀) × (next ≡ at + 4 * count (member s) b) × (buf ≡ sets buf₀ at (numbersText (listed (member s) b)))
@@ -21,32 +17,16 @@ Inv-loop buf₀ at s next₀ b₀ buf next b = (b ≤ 64) × (length buf ≡ len
 abbrev μ-loop : tie.MeasureT-loop
 μ-loop buf₀ at s next₀ b₀ buf next b = 64 - b
 
--- src/lib.rt:206:5
 loop-holds : tie.Need-loop-holds Inv-loop μ-loop
 unfolding count listed numbersText
 loop-holds c = (search needs, refl, omega arith, refl)
 
--- src/lib.rt:207:9
 write-member-requires : tie.Need-write-member-requires Inv-loop μ-loop
 write-member-requires c κs = (search needs, search room-member)
 
--- src/lib.rt:208:9
-add-b : tie.Need-add-b Inv-loop μ-loop
-add-b c = search needs
-
--- src/lib.rt:206:5
-loop-less : tie.Need-loop-less Inv-loop μ-loop
-loop-less c = search needs
-
--- src/lib.rt:206:5
 loop-again : tie.Need-loop-again Inv-loop μ-loop
 loop-again c = (search needs, search needs, search members-next, search members-on)
 
--- src/lib.rt:199:1
-same-length : tie.Need-same-length Inv-loop μ-loop
-same-length c = search needs
-
--- src/lib.rt:199:1
 returns : tie.Need-returns Inv-loop μ-loop
 returns c = (search members-count, search members-done)
 
@@ -58,8 +38,8 @@ write-members-spec =
     μ-loop
     loop-holds
     write-member-requires
-    add-b
-    loop-less
+    (search needs)
+    (search needs)
     loop-again
-    same-length
+    (search needs)
     returns)

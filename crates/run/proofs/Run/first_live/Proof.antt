@@ -10,10 +10,10 @@ use Rattle.run.proofs.Run.first_live.Statement.{statement}
 use Rattle.run.proofs.Run.first_live.Tie as tie
 
 abbrev Inv-loop : tie.InvT-loop
-Inv-loop lost firm ways k₀ k-end k = (k ≤ k-end) × So-far (liveIn lost firm ways) k
+Inv-loop lost firm ways a k₀ k = (k ≤ a) × So-far (liveIn lost firm ways) k
 
 abbrev μ-loop : tie.MeasureT-loop
-μ-loop lost firm ways k₀ k-end k = k-end - k
+μ-loop lost firm ways a k₀ k = a - k
 
 loop-holds : tie.Need-loop-holds Inv-loop μ-loop
 loop-holds c = (omega arith, so-far-none _)

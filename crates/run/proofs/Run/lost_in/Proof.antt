@@ -9,7 +9,7 @@ use Rattle.run.proofs.Run.lost_in.Statement.{statement}
 use Rattle.run.proofs.Run.lost_in.Tie as tie
 
 returns : tie.Need-returns
-unfolding lostIn lost coded
+unfolding lostIn coded
 returns c = ap not (c .disjoint .ensures ∙ ap₂ disjointFrom (c .before .before .way-of .ensures) (c .before .coded .ensures))
 
 pub lost-in-spec : {M : Type 1} → statement M

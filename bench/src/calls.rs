@@ -1,0 +1,95 @@
+//! The four calls on lent bytes, on sets of 64 bits: what the library is measured against.
+
+use crate::check::{self, Network};
+use crate::plan;
+use crate::run::{Change, Order, Run, STATE_LENGTH};
+
+#[derive(Clone, Copy)]
+pub struct Refusal {
+    pub number: u32,
+    pub place: u32,
+}
+
+const UNSOUND: Refusal = Refusal { number: 11, place: 0 };
+
+pub fn pack(kind: u32, refusal: u32, place: u32) -> u32 {
+    kind << 24 | refusal << 16 | place
+}
+
+fn answer(result: Result<u32, Refusal>) -> u32 {
+    result.unwrap_or_else(|refusal| pack(0, refusal.number, refusal.place))
+}
+
+fn judge(sheet: &[u8]) -> Result<Network, Refusal> {
+    check::check(plan::read(sheet)?)
+}
+
+fn lent(state: &mut [u8]) -> Result<&mut [u8; STATE_LENGTH], Refusal> {
+    state.try_into().map_err(|_| UNSOUND)
+}
+
+fn write(change: &Change, bytes: &mut [u8; STATE_LENGTH]) {
+    bytes[0] = change.way as u8;
+    bytes[change.booking + 1] = change.code;
+}
+
+/// The reader alone; 0 or its refusal.
+#[inline(never)]
+pub fn read_only(sheet: &[u8]) -> u32 {
+    answer(plan::read(sheet).map(|plan| {
+        std::hint::black_box(&plan);
+        0
+    }))
+}
+
+#[inline(never)]
+pub fn check(sheet: &[u8]) -> u32 {
+    answer(judge(sheet).map(|_| pack(6, 0, 0)))
+}
+
+#[inline(never)]
+pub fn start(sheet: &[u8], state: &mut [u8]) -> u32 {
+    let mut step = || {
+        judge(sheet)?;
+        let bytes = lent(state)?;
+        *bytes = [0; STATE_LENGTH];
+        bytes[0] = 1;
+        Ok(pack(6, 0, 0))
+    };
+    answer(step())
+}
+
+#[inline(never)]
+pub fn next_order(sheet: &[u8], state: &mut [u8]) -> u32 {
+    let mut step = || {
+        let network = judge(sheet)?;
+        let bytes = lent(state)?;
+        let run = Run::of_bytes(&network, bytes).ok_or(UNSOUND)?;
+        let order = run.next_order(&network);
+        if let Some(change) = run.change_of_order(&order) {
+            write(&change, bytes);
+        }
+        Ok(match order {
+            Order::Request(booking) => pack(1, 0, booking as u32 + 1),
+            Order::Return(booking) => pack(2, 0, booking as u32 + 1),
+            Order::Wait => pack(3, 0, 0),
+            Order::Flown(way) => pack(4, 0, way as u32),
+            Order::CalledOff => pack(5, 0, 0),
+        })
+    };
+    answer(step())
+}
+
+#[inline(never)]
+pub fn reply(sheet: &[u8], state: &mut [u8], letter: u8, booking: u32) -> u32 {
+    let mut step = || {
+        let network = judge(sheet)?;
+        let bytes = lent(state)?;
+        let run = Run::of_bytes(&network, bytes).ok_or(UNSOUND)?;
+        let misfit = Refusal { number: 9, place: if booking <= 64 { booking } else { 0 } };
+        let change = run.reply(&network, letter, booking).ok_or(misfit)?;
+        write(&change, bytes);
+        Ok(pack(6, 0, booking))
+    };
+    answer(step())
+}

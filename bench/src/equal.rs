@@ -1,0 +1,111 @@
+//! Both versions must give equal answers and leave equal states, or no time means anything.
+
+use crate::campaign::{record, Dice, State};
+use crate::sheets::Sheet;
+use crate::{calls, library};
+
+pub struct Compared {
+    pub calls: usize,
+}
+
+impl Compared {
+    fn same(&mut self, here: u32, there: u32, what: &str, sheet: &[u8]) {
+        self.calls += 1;
+        if here != there {
+            eprintln!("bench: {what}: library {here:#010x}, Rust {there:#010x}, for the sheet:");
+            eprintln!("{}", String::from_utf8_lossy(sheet));
+            std::process::exit(1);
+        }
+    }
+
+    fn check(&mut self, sheet: &[u8]) {
+        self.same(library::check(sheet), calls::check(sheet), "check", sheet);
+    }
+
+    fn step(&mut self, sheet: &[u8], state: &[u8], what: &str, step: Step) {
+        let (mut here, mut there) = (state.to_vec(), state.to_vec());
+        let answers = match step {
+            Step::Start => (library::start(sheet, &mut here), calls::start(sheet, &mut there)),
+            Step::Order => (library::next_order(sheet, &mut here), calls::next_order(sheet, &mut there)),
+            Step::Reply(letter, booking) => (
+                library::reply(sheet, &mut here, letter, booking),
+                calls::reply(sheet, &mut there, letter, booking),
+            ),
+        };
+        self.same(answers.0, answers.1, what, sheet);
+        if here != there {
+            eprintln!("bench: {what}: states differ\n{here:?}\n{there:?}");
+            std::process::exit(1);
+        }
+    }
+}
+
+#[derive(Clone, Copy)]
+enum Step {
+    Start,
+    Order,
+    Reply(u8, u32),
+}
+
+fn damaged_sheets(compared: &mut Compared, sheet: &[u8], dice: &mut Dice, times: usize) {
+    compared.check(sheet);
+    for _ in 0..times {
+        let mut bytes = sheet.to_vec();
+        let at = dice.below(bytes.len());
+        match dice.below(4) {
+            0 => bytes.truncate(at),
+            1 => bytes[at] = *b" 0123456789BLACPR\n".get(dice.below(20)).unwrap_or(&255),
+            2 => bytes.swap(at, (at + 4) % sheet.len()),
+            _ => bytes.insert(at, b' '),
+        }
+        compared.check(&bytes);
+        compared.step(&bytes, &[0; 65], "start, damaged sheet", Step::Start);
+    }
+}
+
+fn damaged(state: &State, dice: &mut Dice) -> Vec<u8> {
+    let mut bytes = state.to_vec();
+    match dice.below(8) {
+        0 => bytes.truncate(64),
+        1 => bytes.push(0),
+        2 => bytes[0] = dice.below(18) as u8,
+        _ => bytes[1 + dice.below(64)] = dice.below(6) as u8,
+    }
+    bytes
+}
+
+fn campaigns(compared: &mut Compared, sheet: &[u8], dice: &mut Dice, most: usize) {
+    let before = compared.calls;
+    for seed in 0.. {
+        let campaign = record(sheet, seed, [0, 3, 10, 40][seed as usize % 4]);
+        for state in &campaign.orders {
+            compared.step(sheet, state, "next order", Step::Order);
+            let bytes = damaged(state, dice);
+            compared.step(sheet, &bytes, "next order, damaged state", Step::Order);
+        }
+        for &(state, letter, booking) in &campaign.replies {
+            compared.step(sheet, &state, "reply", Step::Reply(letter, booking));
+            let other = Step::Reply(b"YNGK?"[dice.below(5)], dice.below(70) as u32);
+            compared.step(sheet, &state, "any reply", other);
+        }
+        compared.step(sheet, &[9; 65], "start", Step::Start);
+        if compared.calls - before > most {
+            return;
+        }
+    }
+}
+
+/// How many calls were compared; ends the program at the first difference.
+pub fn compare(passing: &[Sheet], others: &[Sheet]) -> usize {
+    let mut compared = Compared { calls: 0 };
+    let mut dice = Dice(1);
+    for sheet in passing {
+        let large = sheet.bytes.len() > 1000;
+        damaged_sheets(&mut compared, &sheet.bytes, &mut dice, if large { 100 } else { 3000 });
+        campaigns(&mut compared, &sheet.bytes, &mut dice, if large { 400 } else { 3000 });
+    }
+    for sheet in others {
+        damaged_sheets(&mut compared, &sheet.bytes, &mut dice, 10);
+    }
+    compared.calls
+}

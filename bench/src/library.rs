@@ -1,0 +1,33 @@
+//! The static library's four calls, behind safe functions.
+
+extern "C" {
+    fn campaign_check(sheet: *const u8, sheet_len: usize) -> u32;
+    fn campaign_start(sheet: *const u8, sheet_len: usize, state: *mut u8, state_len: usize) -> u32;
+    fn campaign_next_order(sheet: *const u8, sheet_len: usize, state: *mut u8, state_len: usize) -> u32;
+    fn campaign_reply(
+        sheet: *const u8,
+        sheet_len: usize,
+        state: *mut u8,
+        state_len: usize,
+        letter: u8,
+        booking: u32,
+    ) -> u32;
+}
+
+// Safe: pointer and length come from one slice, and any bytes are allowed.
+
+pub fn check(sheet: &[u8]) -> u32 {
+    unsafe { campaign_check(sheet.as_ptr(), sheet.len()) }
+}
+
+pub fn start(sheet: &[u8], state: &mut [u8]) -> u32 {
+    unsafe { campaign_start(sheet.as_ptr(), sheet.len(), state.as_mut_ptr(), state.len()) }
+}
+
+pub fn next_order(sheet: &[u8], state: &mut [u8]) -> u32 {
+    unsafe { campaign_next_order(sheet.as_ptr(), sheet.len(), state.as_mut_ptr(), state.len()) }
+}
+
+pub fn reply(sheet: &[u8], state: &mut [u8], letter: u8, booking: u32) -> u32 {
+    unsafe { campaign_reply(sheet.as_ptr(), sheet.len(), state.as_mut_ptr(), state.len(), letter, booking) }
+}

@@ -1,0 +1,155 @@
+//! Reads a plan sheet in one pass, straight into sets: booking b is bit b - 1.
+
+use crate::calls::Refusal;
+
+pub const MOST_BOOKINGS: u32 = 64;
+pub const MOST_LINKS: u32 = 512;
+pub const MOST_WAYS: u32 = 16;
+
+pub struct Plan {
+    pub bookings: usize,
+    pub ways: usize,
+    /// C and P; P and R.
+    pub exposed: u64,
+    pub firm: u64,
+    /// Direct predecessors of each booking.
+    pub before: [u64; 64],
+    pub way: [u64; 16],
+}
+
+const FORM: u32 = 1;
+const COUNT: u32 = 2;
+const NUMBER: u32 = 3;
+
+/// What is left of the sheet, and the line it is on.
+struct Lines<'a> {
+    rest: &'a [u8],
+    line: u32,
+}
+
+impl<'a> Lines<'a> {
+    fn refusal(&self, number: u32) -> Refusal {
+        Refusal { number, place: self.line }
+    }
+
+    fn take(&mut self, length: usize) -> Result<&'a [u8], Refusal> {
+        if self.rest.len() < length {
+            return Err(self.refusal(FORM));
+        }
+        let (front, rest) = self.rest.split_at(length);
+        self.rest = rest;
+        Ok(front)
+    }
+
+    fn field(&self, columns: &[u8]) -> Result<u32, Refusal> {
+        number(columns).ok_or(self.refusal(FORM))
+    }
+
+    fn need(&self, holds: bool, number: u32) -> Result<(), Refusal> {
+        if holds {
+            Ok(())
+        } else {
+            Err(self.refusal(number))
+        }
+    }
+}
+
+/// A number in four columns, right-justified, without leading zeros.
+#[inline]
+fn number(columns: &[u8]) -> Option<u32> {
+    let digits = |digits: &[u8]| {
+        let valid = digits.iter().all(u8::is_ascii_digit) && (digits[0] != b'0' || digits.len() == 1);
+        valid.then(|| digits.iter().fold(0, |value, digit| value * 10 + u32::from(digit - b'0')))
+    };
+    match columns {
+        [b' ', b' ', b' ', d] => digits(&[*d]),
+        [b' ', b' ', c, d] => digits(&[*c, *d]),
+        [b' ', b, c, d] => digits(&[*b, *c, *d]),
+        [a, b, c, d] => digits(&[*a, *b, *c, *d]),
+        _ => None,
+    }
+}
+
+#[inline]
+pub fn bit(booking: u32) -> u64 {
+    1 << (booking - 1)
+}
+
+fn read_head(lines: &mut Lines) -> Result<(u32, u32, u32), Refusal> {
+    let head = lines.take(14)?;
+    lines.need(head[0] == b'P' && head[13] == b'\n', FORM)?;
+    let (n, m, a) = (lines.field(&head[1..5])?, lines.field(&head[5..9])?, lines.field(&head[9..13])?);
+    lines.need((1..=MOST_BOOKINGS).contains(&n) && m <= MOST_LINKS && (1..=MOST_WAYS).contains(&a), COUNT)?;
+    lines.line += 1;
+    Ok((n, m, a))
+}
+
+fn read_bookings(lines: &mut Lines, n: u32, plan: &mut Plan) -> Result<(), Refusal> {
+    for booking in 1..=n {
+        let text = lines.take(8)?;
+        lines.need(text[0] == b'B' && text[5] == b' ' && text[7] == b'\n', FORM)?;
+        let given = lines.field(&text[1..5])?;
+        let (exposed, firm) = match text[6] {
+            b'C' => (true, false),
+            b'P' => (true, true),
+            b'R' => (false, true),
+            _ => return Err(lines.refusal(FORM)),
+        };
+        lines.need(given == booking, NUMBER)?;
+        plan.exposed |= u64::from(exposed) << (booking - 1);
+        plan.firm |= u64::from(firm) << (booking - 1);
+        lines.line += 1;
+    }
+    Ok(())
+}
+
+fn read_links(lines: &mut Lines, n: u32, m: u32, plan: &mut Plan) -> Result<(), Refusal> {
+    let mut last = (0, 0);
+    for _ in 0..m {
+        let text = lines.take(10)?;
+        lines.need(text[0] == b'L' && text[9] == b'\n', FORM)?;
+        let (u, v) = (lines.field(&text[1..5])?, lines.field(&text[5..9])?);
+        lines.need((1..=n).contains(&u) && (1..=n).contains(&v) && (u, v) > last, NUMBER)?;
+        plan.before[v as usize - 1] |= bit(u);
+        last = (u, v);
+        lines.line += 1;
+    }
+    Ok(())
+}
+
+fn read_way(lines: &mut Lines, n: u32) -> Result<u64, Refusal> {
+    let head = lines.take(5)?;
+    lines.need(head[0] == b'A', FORM)?;
+    let count = lines.field(&head[1..5])?;
+    lines.need((1..=n).contains(&count), COUNT)?;
+    let text = lines.take(count as usize * 4 + 1)?;
+    let (columns, end) = text.split_at(count as usize * 4);
+    let mut set = 0;
+    let mut last = 0;
+    // A wrong number counts only if the whole line is of its form.
+    let mut rising = true;
+    for field in columns.chunks_exact(4) {
+        let booking = lines.field(field)?;
+        rising &= booking > last && booking <= n;
+        set |= 1u64.wrapping_shl(booking.wrapping_sub(1));
+        last = booking;
+    }
+    lines.need(end[0] == b'\n', FORM)?;
+    lines.need(rising, NUMBER)?;
+    lines.line += 1;
+    Ok(set)
+}
+
+pub fn read(sheet: &[u8]) -> Result<Plan, Refusal> {
+    let mut lines = Lines { rest: sheet, line: 1 };
+    let (n, m, a) = read_head(&mut lines)?;
+    let mut plan =
+        Plan { bookings: n as usize, ways: a as usize, exposed: 0, firm: 0, before: [0; 64], way: [0; 16] };
+    read_bookings(&mut lines, n, &mut plan)?;
+    read_links(&mut lines, n, m, &mut plan)?;
+    for way in 0..plan.ways {
+        plan.way[way] = read_way(&mut lines, n)?;
+    }
+    lines.need(lines.rest.is_empty(), FORM)?;
+    Ok(plan)
+}

@@ -1,0 +1,150 @@
+//! The run on sets: which bookings are requested, held, lost, returning.
+
+use crate::check::{members, Network};
+
+pub const STATE_LENGTH: usize = 65;
+
+const FREE: u8 = 0;
+const REQUESTED: u8 = 1;
+const HELD: u8 = 2;
+const LOST: u8 = 3;
+const RETURNING: u8 = 4;
+
+pub struct Run {
+    way: usize,
+    requested: u64,
+    held: u64,
+    lost: u64,
+    returning: u64,
+}
+
+pub enum Order {
+    Request(usize),
+    Return(usize),
+    Wait,
+    Flown(usize),
+    CalledOff,
+}
+
+/// What a step changes: one booking's code, and the current way.
+pub struct Change {
+    pub booking: usize,
+    pub code: u8,
+    pub way: usize,
+}
+
+impl Run {
+    /// The run of these bytes, if they are a sound state.
+    pub fn of_bytes(network: &Network, bytes: &[u8; STATE_LENGTH]) -> Option<Run> {
+        let mut sets = [0u64; 5];
+        for (booking, &code) in bytes[1..].iter().enumerate() {
+            *sets.get_mut(usize::from(code))? |= 1 << booking;
+        }
+        let [free, requested, held, lost, returning] = sets;
+        let run = Run { way: usize::from(bytes[0]), requested, held, lost, returning };
+        let past_end = if network.bookings == 64 { 0 } else { !0 << network.bookings };
+        (free & past_end == past_end && run.way <= network.ways && run.is_sound(network)).then_some(run)
+    }
+
+    fn current(&self, network: &Network) -> u64 {
+        if self.way == 0 {
+            0
+        } else {
+            network.way[self.way - 1]
+        }
+    }
+
+    fn is_live(&self, network: &Network, way: u64) -> bool {
+        way & self.lost == 0 && self.held & network.firm & !way == 0
+    }
+
+    fn stands(&self, network: &Network, set: u64) -> bool {
+        members(set).all(|booking| network.before[booking] & !self.held == 0)
+    }
+
+    fn is_sound(&self, network: &Network) -> bool {
+        let way = self.current(network);
+        let outside = self.held & !way | self.returning;
+        let earlier = if self.way == 0 { network.way_sets() } else { &network.way[..self.way - 1] };
+        let lost_here = self.lost & way;
+        self.stands(network, self.requested | self.held | self.returning)
+            && self.lost & !network.exposed == 0
+            && self.requested & !way == 0
+            && self.returning & (network.firm | way) == 0
+            && (outside == 0 || self.requested == 0)
+            && earlier.iter().all(|&way| !self.is_live(network, way))
+            && self.held & network.firm & !way == 0
+            && (lost_here == 0 || self.requested != 0)
+            && self.stands(network, lost_here)
+    }
+
+    pub fn next_order(&self, network: &Network) -> Order {
+        let way = self.current(network);
+        if way & self.lost != 0 {
+            return Order::Wait;
+        }
+        let standing = self.held | self.returning;
+        if let Some(b) = members(self.held & !way).find(|&b| network.after[b] & standing == 0) {
+            return Order::Return(b);
+        }
+        if self.returning != 0 {
+            return Order::Wait;
+        }
+        let free = way & !(self.requested | self.held | self.lost);
+        if let Some(b) = members(free).find(|&b| network.before[b] & !self.held == 0) {
+            return Order::Request(b);
+        }
+        if self.requested != 0 {
+            return Order::Wait;
+        }
+        if self.way == 0 {
+            Order::CalledOff
+        } else {
+            Order::Flown(self.way)
+        }
+    }
+
+    pub fn change_of_order(&self, order: &Order) -> Option<Change> {
+        match *order {
+            Order::Request(booking) => Some(Change { booking, code: REQUESTED, way: self.way }),
+            Order::Return(booking) => Some(Change { booking, code: RETURNING, way: self.way }),
+            _ => None,
+        }
+    }
+
+    fn way_after(&self, network: &Network) -> usize {
+        if self.requested != 0 || self.current(network) & self.lost == 0 {
+            return self.way;
+        }
+        network.way_sets().iter().position(|&way| self.is_live(network, way)).map_or(0, |i| i + 1)
+    }
+
+    /// What a reply to booking (counted from 1) changes, if it fits.
+    pub fn reply(mut self, network: &Network, letter: u8, booking: u32) -> Option<Change> {
+        if booking == 0 || booking > 64 {
+            return None;
+        }
+        let bit = 1 << (booking - 1);
+        let (due, code) = match letter {
+            b'Y' => (self.requested, HELD),
+            b'N' => (self.requested, if network.exposed & bit != 0 { LOST } else { FREE }),
+            b'G' => (self.returning, FREE),
+            b'K' => (self.returning, HELD),
+            _ => return None,
+        };
+        if due & bit == 0 {
+            return None;
+        }
+        let booking = booking as usize - 1;
+        if letter == b'G' || letter == b'K' {
+            return Some(Change { booking, code, way: self.way });
+        }
+        self.requested &= !bit;
+        match code {
+            HELD => self.held |= bit,
+            LOST => self.lost |= bit,
+            _ => {}
+        }
+        Some(Change { booking, code, way: self.way_after(network) })
+    }
+}

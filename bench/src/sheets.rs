@@ -1,0 +1,77 @@
+//! The sheets that are measured.
+
+use std::fmt::Write;
+
+pub struct Sheet {
+    pub name: String,
+    pub bytes: Vec<u8>,
+}
+
+fn write_sheet(kinds: &str, links: &[(usize, usize)], ways: &[Vec<usize>]) -> Vec<u8> {
+    let mut text = format!("P{:4}{:4}{:4}\n", kinds.len(), links.len(), ways.len());
+    for (i, kind) in kinds.chars().enumerate() {
+        writeln!(text, "B{:4} {kind}", i + 1).unwrap();
+    }
+    for (u, v) in links {
+        writeln!(text, "L{u:4}{v:4}").unwrap();
+    }
+    for way in ways {
+        write!(text, "A{:4}", way.len()).unwrap();
+        for booking in way {
+            write!(text, "{booking:4}").unwrap();
+        }
+        text.push('\n');
+    }
+    text.into_bytes()
+}
+
+/// The m shortest links forward among n bookings: first each to the next, and so on.
+fn forward_links(n: usize, m: usize) -> Vec<(usize, usize)> {
+    let mut links: Vec<_> = (1..n).flat_map(|gap| (1..=n - gap).map(move |u| (u, u + gap))).take(m).collect();
+    links.sort();
+    links
+}
+
+/// Bookings in a row; each way ends one booking before the way above it. Where the row is
+/// linked throughout, what the last way has is repeatable, and behind it all kinds follow:
+/// then the sets that may be stuck are as large as they can be, and the sheet passes.
+fn row(n: usize, m: usize, a: usize) -> Vec<u8> {
+    let shortest = n + 1 - a;
+    let linked = m + 1 >= n;
+    let kind = |b: usize| match (linked, b <= shortest) {
+        (false, _) => 'C',
+        (true, true) => 'R',
+        (true, false) => ['P', 'C', 'R'][b % 3],
+    };
+    let kinds: String = (1..=n).map(kind).collect();
+    let ways: Vec<Vec<usize>> = (0..a).map(|i| (1..=n - i).collect()).collect();
+    write_sheet(&kinds, &forward_links(n, m), &ways)
+}
+
+pub fn grown(n: usize, m: usize, a: usize) -> Sheet {
+    let sheet = row(n, m, a);
+    Sheet { name: format!("{n}, {m}, {a}"), bytes: sheet }
+}
+
+fn example(folder: &str, name: &str, title: &str) -> Sheet {
+    let path = format!("{folder}/{name}/plan.txt");
+    let bytes = std::fs::read(&path).unwrap_or_else(|fault| panic!("{path}: {fault}"));
+    Sheet { name: title.to_string(), bytes }
+}
+
+/// Smallest, Tanker, full size; and a full-size row, which is hard on the check.
+pub fn main_sheets(examples: &str) -> Vec<Sheet> {
+    vec![
+        Sheet { name: "smallest (1, 0, 1)".to_string(), bytes: write_sheet("C", &[], &[vec![1]]) },
+        example(examples, "tanker", "Tanker (4, 3, 2)"),
+        example(examples, "full-size", "full size (64, 512, 16)"),
+        Sheet { name: "full-size row (64, 512, 16)".to_string(), bytes: row(64, 512, 16) },
+    ]
+}
+
+/// The longest text: every way has every booking, so it reads but is refused with 7.
+pub fn longest_text() -> Sheet {
+    let ways: Vec<Vec<usize>> = vec![(1..=64).collect(); 16];
+    let bytes = write_sheet(&"C".repeat(64), &forward_links(64, 512), &ways);
+    Sheet { name: "longest text (refused with 7)".to_string(), bytes }
+}

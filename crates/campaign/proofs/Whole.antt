@@ -1,0 +1,73 @@
+-- The whole campaign: for every sheet that passes and every list of calls, on bytes and in 32 bits.
+-- Assumes nothing.
+use mathlib.Core.Path.{_≡_, refl, sym, ap, _∙_}
+use mathlib.Core.Bool.{true}
+use mathlib.Core.List.{List, [], _∷_}
+use Prim.Native.Nat.{ℕ}
+use lib.ListN.{length}
+use borrow.Author.Tests.{eqb-true, eq-eqb}
+use Rattle.bounded.proofs.Bools.{and-l, and-r}
+use Rattle.plan.specs.Judging.{isFine}
+use Rattle.sheet.specs.Sheet.{sheetOf}
+use Rattle.sheet.proofs.Accepted.{sheet-valid}
+use Rattle.verdict.specs.Check.{check, verdictNumber}
+use Rattle.run.specs.State.{start}
+use Rattle.run.specs.Bytes.{bytesOf}
+use Rattle.guarantee.specs.Machine.{Asked, nextOrder}
+use Rattle.guarantee.specs.Calls.{callBits, callBytes, answers, states, left, answersTo, orderAfter}
+use Rattle.guarantee.specs.Counted.{ends}
+use Rattle.guarantee.specs.Guarantee.{Guarantee}
+use Rattle.guarantee.proofs.Plans.{plan-campaign}
+use Rattle.campaign.specs.Calls.{networkIn, passes, sheetPasses, startLeaves, askedCall, askedLeaves}
+use Rattle.campaign.specs.Lists.{answersOn, statesOn, leftOn}
+use Rattle.campaign.specs.Whole.{WholeCampaign}
+
+module _ (s : List ℕ) (e : sheetPasses s ≡ true) where
+  -- with a sheet that passes, a call is the call on its network
+  call-is : (bs : List ℕ) (q : Asked) → askedCall s bs q ≡ callBits (networkIn s) bs q
+  unfolding askedCall
+  call-is bs q = rw e
+
+  leaves-is : (bs : List ℕ) (q : Asked) → askedLeaves s bs q ≡ callBytes (networkIn s) bs q
+  unfolding askedLeaves
+  leaves-is bs q = rw e
+
+  answers-is : (bs : List ℕ) (qs : List Asked) → answersOn s bs qs ≡ answers (networkIn s) bs qs
+  unfolding answersOn answers
+  answers-is bs [] = refl
+  answers-is bs (q ∷ qs) = rw (call-is bs q, leaves-is bs q, answers-is (callBytes (networkIn s) bs q) qs)
+
+  states-is : (bs : List ℕ) (qs : List Asked) → statesOn s bs qs ≡ states (networkIn s) bs qs
+  unfolding statesOn states
+  states-is bs [] = refl
+  states-is bs (q ∷ qs) = rw (leaves-is bs q, states-is (callBytes (networkIn s) bs q) qs)
+
+  left-is : (bs : List ℕ) (qs : List Asked) → leftOn s bs qs ≡ left (networkIn s) bs qs
+  unfolding leftOn left
+  left-is bs [] = refl
+  left-is bs (q ∷ qs) = rw (leaves-is bs q, left-is (callBytes (networkIn s) bs q) qs)
+
+  guaranteed : (qs : List Asked) → Guarantee (networkIn s) qs
+  unfolding sheetPasses passes networkIn
+  guaranteed qs =
+      plan-campaign (sheetOf s .plan) (sheet-valid s (and-l (isFine (sheetOf s .judged)) _ e))
+      (eqb-true (verdictNumber (check (networkIn s))) 0 (and-r (isFine (sheetOf s .judged)) _ e)) qs
+
+  started : (bs : List ℕ) → length bs ≡ 65 → startLeaves s bs ≡ bytesOf start
+  unfolding startLeaves
+  started bs h = rw (e, eq-eqb (length bs) 65 h)
+
+  -- start is accepted with a sheet that passes and a state of 65 bytes, whatever they were; then every list of calls has the guarantee
+  pub whole-campaign : (bs : List ℕ) → length bs ≡ 65 → (qs : List Asked) → WholeCampaign s (startLeaves s bs) qs
+  unfolding answersTo orderAfter
+  whole-campaign bs h qs =
+      let g = guaranteed qs in
+      let a : answersOn s (startLeaves s bs) qs ≡ answersTo (networkIn s) qs = rw (started bs h) (answers-is (bytesOf start) qs) in
+      let x : askedCall s (leftOn s (startLeaves s bs) qs) nextOrder ≡ orderAfter (networkIn s) qs =
+      rw (started bs h, left-is (bytesOf start) qs) (call-is (left (networkIn s) (bytesOf start) qs) nextOrder) in
+      record {
+        bits = a ∙ g .bits;
+        bytes = rw (started bs h) (states-is (bytesOf start) qs ∙ g .bytes);
+        demand-3 = rw (a, x) (g .demand-3);
+        semi-atomic = λ z. rw a (g .semi-atomic (ap ends (sym x) ∙ z));
+      }

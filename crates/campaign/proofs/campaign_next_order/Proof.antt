@@ -1,0 +1,75 @@
+-- `campaign::campaign_next_order` meets its contract.
+-- Assumes nothing.
+use mathlib.Core.Path.{ap, _∙_}
+use native.Mathlib.Omega.{arith}
+use Rattle.run.specs.declared.Ordered.{Ordered}
+use Rattle.run.specs.Bytes.{bytesOf}
+use Rattle.guarantee.specs.Answers.{orderBits}
+use Rattle.guarantee.specs.Machine.{nextOrder, answer, after}
+use Rattle.campaign.proofs.Places.{order-small}
+use Rattle.campaign.proofs.Exits.{bounded, way-small, asked-refused, asked-short, asked-unsound, asked-done}
+use borrow.Author.Needs.{needs}
+use Rattle.campaign.proofs.campaign_next_order.Statement.{statement}
+use Rattle.campaign.proofs.campaign_next_order.Tie as tie
+
+judge-sheet-requires : tie.Need-judge-sheet-requires
+judge-sheet-requires c κs = search needs
+
+returns : tie.Need-returns
+returns c = asked-refused _ _ (c .before .before .judge-sheet .ensures) (c .if1 .taken) _ (nextOrder)
+
+pack-requires : tie.Need-pack-requires
+pack-requires c κs = search needs
+
+returns-2 : tie.Need-returns-2
+returns-2 c = asked-short _ _ (c .before .before .before .before .judge-sheet .ensures) (c .before .before .if1 .left) _ (nextOrder) (c .before .if2 .taken) _ (c .pack .ensures)
+
+load-requires : tie.Need-load-requires
+load-requires c κs = search needs
+
+is-sound-requires : tie.Need-is-sound-requires
+is-sound-requires c κs = bounded _ _ (c .before .before .before .before .before .before .judge-sheet .ensures) (c .before .before .before .before .if1 .left)
+
+pack-requires-2 : tie.Need-pack-requires-2
+pack-requires-2 c κs = search needs
+
+same-length : tie.Need-same-length
+same-length c = search needs
+
+returns-3 : tie.Need-returns-3
+returns-3 c = asked-unsound _ _ (c .before .before .before .before .before .before .before .before .before .judge-sheet .ensures) (c .before .before .before .before .before .before .before .if1 .left) _ (nextOrder) (c .before .before .before .before .before .before .if2 .left) _ (c .before .before .before .load .ensures) _ (c .before .before .is-sound .ensures) (c .before .if3 .taken) _ (c .pack2 .ensures)
+
+next-order-requires : tie.Need-next-order-requires
+next-order-requires c κs = (bounded _ _ (c .before .before .before .before .before .before .before .before .judge-sheet .ensures) (c .before .before .before .before .before .before .if1 .left) .0, way-small _ _ (c .before .before .before .before .before .before .before .before .judge-sheet .ensures) (c .before .before .before .before .before .before .if1 .left) _ (nextOrder) (c .before .before .before .before .before .if2 .left) _ (c .before .before .load .ensures) _ (c .before .is-sound .ensures) (c .if3 .left))
+
+store-requires : tie.Need-store-requires
+store-requires c κs = search needs
+
+order-bits-requires : tie.Need-order-bits-requires
+order-bits-requires c κs = rw (c .before .before .before .before .before .next-order .ensures) (order-small _ _ (bounded _ _ (c .before .before .before .before .before .before .before .before .before .before .before .before .before .before .judge-sheet .ensures) (c .before .before .before .before .before .before .before .before .before .before .before .before .if1 .left) .0) (let h = way-small _ _ (c .before .before .before .before .before .before .before .before .before .before .before .before .before .before .judge-sheet .ensures) (c .before .before .before .before .before .before .before .before .before .before .before .before .if1 .left) _ (nextOrder) (c .before .before .before .before .before .before .before .before .before .before .before .if2 .left) _ (c .before .before .before .before .before .before .before .before .load .ensures) _ (c .before .before .before .before .before .before .before .is-sound .ensures) (c .before .before .before .before .before .before .if3 .left) in omega arith))
+
+same-length-2 : tie.Need-same-length-2
+same-length-2 c = search needs
+
+returns-4 : tie.Need-returns-4
+unfolding answer after
+returns-4 c = asked-done _ _ (c .before .before .before .before .before .before .before .before .before .before .before .before .before .before .before .judge-sheet .ensures) (c .before .before .before .before .before .before .before .before .before .before .before .before .before .if1 .left) _ nextOrder (c .before .before .before .before .before .before .before .before .before .before .before .before .if2 .left) _ (c .before .before .before .before .before .before .before .before .before .load .ensures) _ (c .before .before .before .before .before .before .before .before .is-sound .ensures) (c .before .before .before .before .before .before .before .if3 .left) _ (c .order-bits .ensures ∙ ap (λ (t : Ordered). orderBits (t .order)) (c .before .before .before .before .before .before .next-order .ensures)) _ (c .before .before .before .store .ensures ∙ ap (λ (t : Ordered). bytesOf (t .run)) (c .before .before .before .before .before .before .next-order .ensures))
+
+pub campaign-next-order-spec : {M : Type 1} → statement M
+campaign-next-order-spec =
+    tie.close
+    (tie.spec
+    judge-sheet-requires
+    returns
+    pack-requires
+    returns-2
+    load-requires
+    is-sound-requires
+    pack-requires-2
+    same-length
+    returns-3
+    next-order-requires
+    store-requires
+    order-bits-requires
+    same-length-2
+    returns-4)

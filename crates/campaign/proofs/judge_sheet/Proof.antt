@@ -1,0 +1,66 @@
+-- `campaign::judge_sheet` meets its contract.
+-- Assumes nothing.
+use Rattle.sheet.specs.declared.Sheet.{Sheet}
+use Rattle.sheet.specs.Sheet.{sheetOf}
+use Rattle.verdict.specs.FromPlan.{networkOf}
+use Rattle.campaign.specs.Calls.{networkIn}
+use mathlib.Core.Bool.{true}
+use mathlib.Core.Path.{_≡_, ap, _∙_}
+use Rattle.plan.specs.Judging.{isFine}
+use Rattle.campaign.proofs.Places.{sheet-small, verdict-small}
+use Rattle.campaign.proofs.Exits.{plan-bounds, fine-read, fine-bounds, checked-refused, checked-read}
+use borrow.Author.Needs.{needs}
+use Rattle.campaign.proofs.judge_sheet.Statement.{statement}
+use Rattle.campaign.proofs.judge_sheet.Tie as tie
+
+fine : (c : tie.Else1) → isFine (sheetOf (c .before .before .before .before .args .sheet .now) .judged) ≡ true
+fine c = fine-read _ _ _ (c .before .before .read-sheet .ensures) (c .before .is-fine .ensures) (c .if1 .left)
+
+net : (c : tie.After-network-of) → c .network-of .result ≡ networkIn (c .before .before .before .before .before .before .args .sheet .now)
+unfolding networkIn
+net c = c .network-of .ensures ∙ ap (λ (x : Sheet). networkOf (x .plan)) (c .before .before .before .before .read-sheet .ensures)
+
+read-sheet-requires : tie.Need-read-sheet-requires
+read-sheet-requires c κs = search needs
+
+is-fine-requires : tie.Need-is-fine-requires
+is-fine-requires c κs = search needs
+
+judged-bits-requires : tie.Need-judged-bits-requires
+judged-bits-requires c κs = rw (c .before .before .read-sheet .ensures) (sheet-small _)
+
+no-network-requires : tie.Need-no-network-requires
+no-network-requires c κs = search needs
+
+returns : tie.Need-returns
+returns c = checked-refused _ _ _ _ _ (ap (λ (x : Sheet). x .judged) (c .before .before .before .before .read-sheet .ensures)) (c .before .before .before .is-fine .ensures) (c .before .before .if1 .taken) (c .before .judged-bits .ensures) (c .no-network .ensures)
+
+network-of-requires : tie.Need-network-of-requires
+network-of-requires c κs = rw (c .before .before .before .read-sheet .ensures) (plan-bounds _ (fine (c .before)))
+
+check-requires : tie.Need-check-requires
+check-requires c κs = rw (net c) (fine-bounds _ (fine (c .before .before)))
+
+check-bits-requires : tie.Need-check-bits-requires
+check-bits-requires c κs = let b = fine-bounds _ (fine (c .before .before .before)) in rw (c .check .ensures, net (c .before)) (verdict-small _ (b .0) (b .1))
+
+is-pass-requires : tie.Need-is-pass-requires
+is-pass-requires c κs = search needs
+
+returns-2 : tie.Need-returns-2
+returns-2 c = checked-read _ _ _ _ _ (fine (c .before .before .before .before .before)) (net (c .before .before .before)) (c .before .before .check .ensures) (c .before .check-bits .ensures) (c .is-pass .ensures)
+
+pub judge-sheet-spec : {M : Type 1} → statement M
+judge-sheet-spec =
+    tie.close
+    (tie.spec
+    read-sheet-requires
+    is-fine-requires
+    judged-bits-requires
+    no-network-requires
+    returns
+    network-of-requires
+    check-requires
+    check-bits-requires
+    is-pass-requires
+    returns-2)

@@ -1,0 +1,47 @@
+use Prim.Native.Nat.{_+_, _*_, _-_, _≤_}
+use mathlib.Core.Path.{_≡_, refl}
+use borrow.Author.Needs.{needs}
+use native.Mathlib.Nat.{add-zero, sub-zero, mul-zero}
+use lib.ListN.{length}
+use lib.Seq.{sets}
+use Rattle.lines.specs.Kinds.{kindsText}
+use Rattle.line_writer.proofs.WriteLaws.{kinds-on, kinds-all}
+use Rattle.line_writer.proofs.write_kinds.Statement.{statement}
+use Rattle.line_writer.proofs.write_kinds.Tie as tie
+
+abbrev Inv-loop : tie.InvT-loop
+Inv-loop buf₀ at n kind i₀ buf i = (i ≤ n) × (length buf ≡ length buf₀) × (sets buf (at + 8 * i) (kindsText (n - i) i kind) ≡ sets buf₀ at (kindsText n 0 kind))
+
+abbrev μ-loop : tie.MeasureT-loop
+μ-loop buf₀ at n kind i₀ buf i = n - i
+
+loop-holds : tie.Need-loop-holds Inv-loop μ-loop
+loop-holds c = (search needs, refl, simp (add-zero, sub-zero, mul-zero))
+
+loop-again : tie.Need-loop-again Inv-loop μ-loop
+loop-again c =
+    let e = c .before .before in
+    let l = e .before .before .before in
+    let a = l .before .before .args in
+    (search needs, search needs, kinds-on (a .n) (a .at) (l .loop .i) (l .loop .buf) _ (a .t4) _ (e .before .before .loop-test .taken) (l .loop .inv .2) (e .write-booking .ensures))
+
+returns : tie.Need-returns Inv-loop μ-loop
+returns c = search kinds-all
+
+pub write-kinds-spec : {M : Type 1} → statement M
+write-kinds-spec =
+    tie.close
+    (tie.spec
+    Inv-loop
+    μ-loop
+    loop-holds
+    (search needs)
+    (search needs)
+    (search needs)
+    (search needs)
+    (search needs)
+    (search needs)
+    (search needs)
+    loop-again
+    (search needs)
+    returns)

@@ -1,0 +1,131 @@
+-- A line that is written of good values is read as these values, and an accepted line is, to the byte, what is written of what was read.
+-- Assumes nothing.
+use Prim.Native.Nat.{ℕ, _^_, _<_, _≤_}
+use mathlib.Core.Path.{_≡_, refl, _∙_}
+use mathlib.Core.List.{List}
+use mathlib.Core.Bool.{Bool, true, false, _&&_, cond}
+use native.Mathlib.Omega.{arith}
+use lib.Dec.{eqb}
+use borrow.Author.Tests.{eq-eqb, eqb-true}
+use Rattle.bounded.proofs.Bools.{clash}
+use Rattle.decimal.specs.Decimal.{columns, columnsTo, sameBytes, numberAt}
+use Rattle.decimal.proofs.Bytes.{same-refl, same-eq}
+use Rattle.decimal.proofs.Fields.{number-in}
+use Rattle.plan.specs.Limits.{isKind, limits, inSequence}
+use Rattle.plan.proofs.LimitLaws.{Limited, limited}
+use Rattle.lines.specs.Head.{headText, isHead, countsOf, headOf}
+use Rattle.lines.specs.Booking.{bookingText, kindIn, isBooking, bookingOf}
+use Rattle.lines.specs.Link.{linkText, isLink, pairOf, linkOf}
+use Rattle.lines.specs.declared.Head.the-variants as H
+use Rattle.lines.specs.declared.Booking.the-variants as B
+use Rattle.lines.specs.declared.Link.the-variants as L
+use Rattle.lines.proofs.LinkLaws.{ends-within}
+
+-- ---- the head
+
+module _ (n m a : ℕ) where
+  first : n < 10 ^ 4 → numberAt 4 1 (headText n m a) ≡ n
+  unfolding headText columns columnsTo
+  first h = number-in 4 1 n (headText n m a) h refl
+
+  second : m < 10 ^ 4 → numberAt 4 5 (headText n m a) ≡ m
+  unfolding headText columns columnsTo
+  second h = number-in 4 5 m (headText n m a) h refl
+
+  third : a < 10 ^ 4 → numberAt 4 9 (headText n m a) ≡ a
+  unfolding headText columns columnsTo
+  third h = number-in 4 9 a (headText n m a) h refl
+
+  pub head-read : limits n m a ≡ true → headOf (headText n m a) ≡ H.Counts n m a
+  unfolding headOf isHead countsOf
+  head-read e =
+      let l : Limited n m a = limited n m a e in
+      rw (first (omega arith), second (omega arith), third (omega arith), same-refl (headText n m a), e)
+
+pub record HeadIs (line : List ℕ) (n m a : ℕ) : Type 0 where
+  pub text : line ≡ headText n m a
+  pub fit : limits n m a ≡ true
+
+pub head-accepted : (line : List ℕ) (n m a : ℕ) → headOf line ≡ H.Counts n m a → HeadIs line n m a
+unfolding headOf isHead countsOf
+head-accepted line n m a =
+    go (sameBytes line (headText (numberAt 4 1 line) (numberAt 4 5 line) (numberAt 4 9 line))) (limits (numberAt 4 1 line) (numberAt 4 5 line) (numberAt 4 9 line))
+    (same-eq _ _) refl
+  where
+    go : (b c : Bool) → (b ≡ true → line ≡ headText (numberAt 4 1 line) (numberAt 4 5 line) (numberAt 4 9 line))
+        → limits (numberAt 4 1 line) (numberAt 4 5 line) (numberAt 4 9 line) ≡ c
+        → cond b (cond c (H.Counts (numberAt 4 1 line) (numberAt 4 5 line) (numberAt 4 9 line)) H.OutOfLimits) H.Malformed ≡ H.Counts n m a → HeadIs line n m a
+    go true true h l e =
+        let x : numberAt 4 1 line ≡ n = cc in
+        let y : numberAt 4 5 line ≡ m = cc in
+        let z : numberAt 4 9 line ≡ a = cc in
+        record { text = h refl ∙ rw (x, y, z); fit = rw (x, y, z) at l }
+    go true false h l e = clash true refl cc
+    go false c h l e = clash true refl cc
+
+-- ---- a booking
+
+its-number : (x k : ℕ) → x < 10 ^ 4 → numberAt 4 1 (bookingText x k) ≡ x
+unfolding bookingText columns columnsTo
+its-number x k h = number-in 4 1 x (bookingText x k) h refl
+
+its-kind : (x k : ℕ) → kindIn (bookingText x k) ≡ k
+unfolding kindIn bookingText columns columnsTo
+its-kind x k = refl
+
+pub booking-read : (x k : ℕ) → x < 10 ^ 4 → isKind k ≡ true → bookingOf (bookingText x k) x ≡ B.Kind k
+unfolding bookingOf isBooking
+booking-read x k h q = rw (its-number x k h, its-kind x k, same-refl (bookingText x k), q, eq-eqb x x refl)
+
+pub record BookingIs (line : List ℕ) (x k : ℕ) : Type 0 where
+  pub text : line ≡ bookingText x k
+  pub known : isKind k ≡ true
+
+pub booking-accepted : (line : List ℕ) (x k : ℕ) → bookingOf line x ≡ B.Kind k → BookingIs line x k
+unfolding bookingOf isBooking
+booking-accepted line x k =
+    go (sameBytes line (bookingText (numberAt 4 1 line) (kindIn line))) (isKind (kindIn line)) (eqb (numberAt 4 1 line) x) (same-eq _ _) refl (eqb-true _ _)
+  where
+    go : (b c d : Bool) → (b ≡ true → line ≡ bookingText (numberAt 4 1 line) (kindIn line)) → isKind (kindIn line) ≡ c → (d ≡ true → numberAt 4 1 line ≡ x)
+        → cond (b && c) (cond d (B.Kind (kindIn line)) B.OutOfSequence) B.Malformed ≡ B.Kind k → BookingIs line x k
+    go true true true h l g e =
+        let y : kindIn line ≡ k = cc in
+        record { text = h refl ∙ rw (g refl, y); known = rw y at l }
+    go true true false h l g e = clash true refl cc
+    go true false d h l g e = clash true refl cc
+    go false c d h l g e = clash true refl cc
+
+-- ---- a link
+
+module _ (n pu pv u v : ℕ) where
+  from-in : u < 10 ^ 4 → numberAt 4 1 (linkText u v) ≡ u
+  unfolding linkText columns columnsTo
+  from-in h = number-in 4 1 u (linkText u v) h refl
+
+  to-in : v < 10 ^ 4 → numberAt 4 5 (linkText u v) ≡ v
+  unfolding linkText columns columnsTo
+  to-in h = number-in 4 5 v (linkText u v) h refl
+
+  pub link-read : n < 10 ^ 4 → inSequence n pu pv u v ≡ true → linkOf (linkText u v) n pu pv ≡ L.Pair u v
+  unfolding linkOf isLink pairOf
+  link-read h e =
+      let b : (u ≤ n) × (v ≤ n) = ends-within n pu pv u v e in
+      rw (from-in (omega arith), to-in (omega arith), same-refl (linkText u v), e)
+
+pub record LinkIs (line : List ℕ) (n pu pv u v : ℕ) : Type 0 where
+  pub text : line ≡ linkText u v
+  pub follows : inSequence n pu pv u v ≡ true
+
+pub link-accepted : (line : List ℕ) (n pu pv u v : ℕ) → linkOf line n pu pv ≡ L.Pair u v → LinkIs line n pu pv u v
+unfolding linkOf isLink pairOf
+link-accepted line n pu pv u v =
+    go (sameBytes line (linkText (numberAt 4 1 line) (numberAt 4 5 line))) (inSequence n pu pv (numberAt 4 1 line) (numberAt 4 5 line)) (same-eq _ _) refl
+  where
+    go : (b c : Bool) → (b ≡ true → line ≡ linkText (numberAt 4 1 line) (numberAt 4 5 line)) → inSequence n pu pv (numberAt 4 1 line) (numberAt 4 5 line) ≡ c
+        → cond b (cond c (L.Pair (numberAt 4 1 line) (numberAt 4 5 line)) L.OutOfSequence) L.Malformed ≡ L.Pair u v → LinkIs line n pu pv u v
+    go true true h l e =
+        let x : numberAt 4 1 line ≡ u = cc in
+        let y : numberAt 4 5 line ≡ v = cc in
+        record { text = h refl ∙ rw (x, y); follows = rw (x, y) at l }
+    go true false h l e = clash true refl cc
+    go false c h l e = clash true refl cc

@@ -1,0 +1,199 @@
+-- What an accepted sheet is: its plan is valid (`sheet-valid`), and its bytes are, to the last, the sheet of that plan (`sheet-accepted`).
+-- Assumes nothing.
+use Prim.Native.Nat.{ℕ, _+_, _*_, _^_}
+use mathlib.Core.Path.{_≡_, refl, sym, ap, _∙_}
+use mathlib.Core.List.{List, [], _++_, append-nil}
+use mathlib.Core.Bool.{Bool, true, false, cond}
+use native.Mathlib.Omega.{arith}
+use lib.ListN.{length, getD, take, drop, take-append-drop}
+use lib.Dec.{eqb}
+use lib.Seq.{drop-drop, drop-length}
+use borrow.Author.Tests.{eqb-true, lt-ltb}
+use Rattle.bounded.specs.Bounded.{sum}
+use Rattle.bounded.proofs.Bools.{clash, _&_}
+use Rattle.bounded.proofs.Tests.{all-i}
+use Rattle.plan.specs.Judging.{isFine}
+use Rattle.plan.specs.Limits.{mostBookings, mostLinks}
+use Rattle.sets.specs.Sets.{sizeOf}
+use Rattle.plan.specs.Record.{kindAt, linkAt, countAt, withinAt, countsFit, entriesFit, recordOf}
+use Rattle.plan.specs.declared.Judged.{Judged}
+use Rattle.plan.specs.declared.Judged.the-variants.{Fine, Form, Count, Sequence}
+use Rattle.plan.specs.declared.Judgement.the-variants as R
+use Rattle.plan.proofs.LimitLaws.{Limited, limited, limited-i, within-i}
+use Rattle.plan.proofs.Valid.{Valid, valid, size-le}
+use Rattle.lines.specs.Head.{headOf}
+use Rattle.lines.specs.Kinds.{kindsText, noKinds}
+use Rattle.lines.specs.Links.{linksText, noLinks}
+use Rattle.lines.specs.declared.Head.{Head}
+use Rattle.lines.specs.declared.Head.the-variants as H
+use Rattle.lines.proofs.RoundTrip.{head-accepted}
+use Rattle.lines.proofs.AllLines.{KindsAre, kinds-accepted, LinksAre, links-accepted}
+use Rattle.ways.specs.WayText.{waysText, waysLength, sizeAt}
+use Rattle.ways.specs.Ways.{countsListed}
+use Rattle.ways.proofs.WaysRoundTrip.{Writable, Read, all-accepted}
+use Rattle.sheet.specs.Sheet.{linksPlace, waysPlace, kindsIn, linksIn, waysIn, planOf, refusedOf, endOf, bodyOf, sheetOf}
+use Rattle.sheet.specs.Text.{sheetText}
+use Rattle.sheet.specs.declared.Sheet.{Sheet}
+
+-- ---- what was found on the way to an accepted sheet
+
+pub fine-is : (j : Judged) → isFine j ≡ true → j ≡ Fine
+fine-is Fine e = refl
+fine-is (Form l) e = clash true refl (sym e)
+fine-is (Count l) e = clash true refl (sym e)
+fine-is (Sequence l) e = clash true refl (sym e)
+
+record Stages (s : List ℕ) : Type 0 where
+  n : ℕ
+  m : ℕ
+  a : ℕ
+  head : headOf (take 14 s) ≡ H.Counts n m a
+  kinds : kindsIn n s .judged ≡ Fine
+  links : linksIn n m s .judged ≡ Fine
+  ways : waysIn n m a s .judged ≡ Fine
+  end : waysIn n m a s .next ≡ length s
+  read : sheetOf s ≡ record { judged = Fine; plan = planOf n m a s }
+
+module _ (s : List ℕ) where
+  body-stages : (n m a : ℕ) → headOf (take 14 s) ≡ H.Counts n m a → (x y z w : Bool) → isFine (kindsIn n s .judged) ≡ x → isFine (linksIn n m s .judged) ≡ y
+      → isFine (waysIn n m a s .judged) ≡ z → eqb (waysIn n m a s .next) (length s) ≡ w
+      → sheetOf s
+      ≡ cond x
+      (cond y
+      (cond z (cond w (record { judged = Fine; plan = planOf n m a s }) (refusedOf (Form (n + m + a + 2)))) (refusedOf (waysIn n m a s .judged)))
+      (refusedOf (linksIn n m s .judged)))
+      (refusedOf (kindsIn n s .judged))
+      → isFine (sheetOf s .judged) ≡ true → Stages s
+  unfolding refusedOf
+  body-stages n m a h true true true true k l v t e q = record {
+    n = n;
+    m = m;
+    a = a;
+    head = h;
+    kinds = fine-is (kindsIn n s .judged) k;
+    links = fine-is (linksIn n m s .judged) l;
+    ways = fine-is (waysIn n m a s .judged) v;
+    end = eqb-true _ _ t;
+    read = e;
+  }
+  body-stages n m a h true true true false k l v t e q = clash true refl (sym (rw e at q))
+  body-stages n m a h true true false w k l v t e q = clash (isFine (waysIn n m a s .judged)) (rw e at q) v
+  body-stages n m a h true false z w k l v t e q = clash (isFine (linksIn n m s .judged)) (rw e at q) l
+  body-stages n m a h false y z w k l v t e q = clash (isFine (kindsIn n s .judged)) (rw e at q) k
+
+  stages : isFine (sheetOf s .judged) ≡ true → Stages s
+  unfolding sheetOf bodyOf endOf refusedOf
+  stages = go (headOf (take 14 s)) refl
+    where
+      go : (h : Head) → headOf (take 14 s) ≡ h → isFine (sheetOf s .judged) ≡ true → Stages s
+      go (H.Counts n m a) e q =
+          body-stages n m a e (isFine (kindsIn n s .judged)) (isFine (linksIn n m s .judged)) (isFine (waysIn n m a s .judged))
+          (eqb (waysIn n m a s .next) (length s)) refl refl refl refl (rw e) q
+      go H.Malformed e q = let f : sheetOf s ≡ refusedOf (Form 1) = rw e in clash true refl (sym (rw f at q))
+      go H.OutOfLimits e q = let f : sheetOf s ≡ refusedOf (Count 1) = rw e in clash true refl (sym (rw f at q))
+
+-- ---- the parts of an accepted sheet
+
+no-kinds : length noKinds ≡ mostBookings
+unfolding noKinds
+no-kinds = refl
+
+no-links : length noLinks ≡ mostLinks
+unfolding noLinks
+no-links = refl
+
+module _ (s : List ℕ) (t : Stages s) where
+  fits : Limited (t .n) (t .m) (t .a)
+  fits = limited (t .n) (t .m) (t .a) (head-accepted (take 14 s) (t .n) (t .m) (t .a) (t .head) .fit)
+
+  the-kinds : KindsAre (t .n) 0 (drop 14 s) noKinds (kindsIn (t .n) s .kind)
+  unfolding kindsIn
+  the-kinds =
+      kinds-accepted (t .n) 0 (drop 14 s) noKinds (kindsIn (t .n) s .kind) (omega (arith, no-kinds, fits .bookings))
+      (ap (λ (j : Judged). record { judged = j; kind = kindsIn (t .n) s .kind }) (t .kinds))
+
+  the-links : LinksAre (t .n) (t .m) 0 (drop (linksPlace (t .n)) s) 0 0 noLinks noLinks (linksIn (t .n) (t .m) s .from) (linksIn (t .n) (t .m) s .to)
+  unfolding linksIn
+  the-links =
+      links-accepted (t .n) (t .m) 0 (drop (linksPlace (t .n)) s) 0 0 noLinks noLinks (linksIn (t .n) (t .m) s .from) (linksIn (t .n) (t .m) s .to)
+      (omega (arith, no-links, fits .links))
+      (omega (arith, no-links, fits .links))
+      (ap (λ (j : Judged). record { judged = j; from = linksIn (t .n) (t .m) s .from; to = linksIn (t .n) (t .m) s .to }) (t .links))
+
+  the-ways : Read (t .n) (t .a) (waysPlace (t .n) (t .m)) (length s) (drop (waysPlace (t .n) (t .m)) s) (waysIn (t .n) (t .m) (t .a) s .way)
+  unfolding waysIn
+  the-ways =
+      all-accepted (t .n) (t .n + t .m + 2) (t .a) (waysPlace (t .n) (t .m)) (length s) (drop (waysPlace (t .n) (t .m)) s) (waysIn (t .n) (t .m) (t .a) s .way)
+      (fits .bookings) (fits .ways)
+      (ap (λ (j : Judged). record { judged = j; next = waysIn (t .n) (t .m) (t .a) s .next; way = waysIn (t .n) (t .m) (t .a) s .way }) (t .ways)
+      ∙ ap (λ (l : ℕ). record { judged = Fine; next = l; way = waysIn (t .n) (t .m) (t .a) s .way }) (t .end))
+
+  -- ---- its plan has no refusal 2 and no refusal 3
+
+  counts-fit : countsFit (planOf (t .n) (t .m) (t .a) s) ≡ true
+  unfolding countsFit countAt planOf
+  counts-fit =
+      limited-i (t .n) (t .m) (t .a) fits
+      & all-i (countAt (t .n) (waysIn (t .n) (t .m) (t .a) s .way)) (t .a)
+      (λ k h.
+      let w : Writable (t .n) (getD (waysIn (t .n) (t .m) (t .a) s .way) k 0) = the-ways .writable k h in
+      within-i 1 (sizeOf (getD (waysIn (t .n) (t .m) (t .a) s .way) k 0)) (t .n) (w .some) (size-le (t .n) _ (fits .bookings) (w .small)))
+
+  entries-fit : entriesFit (planOf (t .n) (t .m) (t .a) s) ≡ true
+  unfolding entriesFit withinAt planOf
+  entries-fit =
+      all-i (kindAt (kindsIn (t .n) s .kind)) (t .n) (λ b h. the-kinds .good b (omega arith) (omega arith))
+      & all-i (linkAt (t .n) (linksIn (t .n) (t .m) s .from) (linksIn (t .n) (t .m) s .to)) (t .m) (λ i h. the-links .good refl refl i (omega arith) (omega arith))
+      & all-i (withinAt (t .n) (waysIn (t .n) (t .m) (t .a) s .way)) (t .a)
+      (λ k h. lt-ltb (getD (waysIn (t .n) (t .m) (t .a) s .way) k 0) (2 ^ t .n) (the-ways .writable k h .small))
+
+  plan-fine : recordOf (planOf (t .n) (t .m) (t .a) s) ≡ R.Fine
+  unfolding recordOf
+  plan-fine = rw (counts-fit, entries-fit)
+
+  -- ---- its bytes are the lines of that plan
+
+  after-ways : drop (waysPlace (t .n) (t .m)) s ≡ waysText (t .a) 0 (waysIn (t .n) (t .m) (t .a) s .way)
+  after-ways =
+      let w : List ℕ = waysIn (t .n) (t .m) (t .a) s .way in
+      let d : drop (waysLength (t .a) (waysIn (t .n) (t .m) (t .a) s .way)) (drop (waysPlace (t .n) (t .m)) s) ≡ [] =
+      drop-drop (waysLength (t .a) w) (waysPlace (t .n) (t .m)) s ∙ rw (← (the-ways .place)) (drop-length s) in
+      the-ways .text ∙ rw (d, append-nil)
+
+  after-links : drop (linksPlace (t .n)) s
+      ≡ linksText (t .m) 0 (linksIn (t .n) (t .m) s .from) (linksIn (t .n) (t .m) s .to) ++ drop (waysPlace (t .n) (t .m)) s
+  after-links =
+      sym (take-append-drop (10 * t .m) (drop (linksPlace (t .n)) s)) ∙ rw (the-links .text, drop-drop (10 * t .m) (linksPlace (t .n)) s)
+
+  after-kinds : drop 14 s ≡ kindsText (t .n) 0 (kindsIn (t .n) s .kind) ++ drop (linksPlace (t .n)) s
+  after-kinds = sym (take-append-drop (8 * t .n) (drop 14 s)) ∙ rw (the-kinds .text, drop-drop (8 * t .n) 14 s)
+
+  bytes-are : s ≡ sheetText (planOf (t .n) (t .m) (t .a) s)
+  unfolding sheetText planOf
+  bytes-are =
+      sym (take-append-drop 14 s)
+      ∙ rw (head-accepted (take 14 s) (t .n) (t .m) (t .a) (t .head) .text, after-kinds, after-links, after-ways)
+
+-- ---- the theorems
+
+module _ (s : List ℕ) (e : isFine (sheetOf s .judged) ≡ true) where
+  read-plan : planOf (stages s e .n) (stages s e .m) (stages s e .a) s ≡ sheetOf s .plan
+  read-plan = sym (ap (λ (r : Sheet). r .plan) (stages s e .read))
+
+  -- the plan of an accepted sheet passes the record's test
+  pub sheet-fine : recordOf (sheetOf s .plan) ≡ R.Fine
+  sheet-fine = rw (← read-plan) (plan-fine s (stages s e))
+
+  -- and so has no refusal 2 and no refusal 3
+  pub sheet-valid : Valid (sheetOf s .plan)
+  sheet-valid = valid (sheetOf s .plan) sheet-fine
+
+  -- an accepted sheet is the sheet of its plan
+  pub sheet-accepted : sheetText (sheetOf s .plan) ≡ s
+  sheet-accepted = sym (bytes-are s (stages s e) ∙ ap sheetText read-plan)
+
+  -- the counts that its way lines list add up to the sizes of its sets
+  pub sheet-counts : countsListed (sheetOf s .plan .a) (drop (waysPlace (sheetOf s .plan .n) (sheetOf s .plan .m)) s)
+      ≡ sum (sizeAt (sheetOf s .plan .way)) (sheetOf s .plan .a)
+  unfolding planOf
+  sheet-counts = rw (← read-plan) (the-ways s (stages s e) .counts)

@@ -1,0 +1,81 @@
+-- A plan sheet: the head, the lines of the bookings, of the links and of the ways, and nothing after them.
+-- It is judged line by line from the top, so the first line that is refused decides: 1 for its form, 2 for a count, 3 for a number.
+-- Where bytes end early the line that lacks one is not of its form; where bytes remain, the line after the last is not.
+-- Assumes nothing.
+use Prim.Native.Nat.{ℕ, _+_, _*_}
+use mathlib.Core.List.{List}
+use mathlib.Core.Bool.{cond}
+use lib.ListN.{length, take, drop, replicate}
+use lib.Dec.{eqb}
+use Rattle.plan.specs.Limits.{mostBookings, mostLinks, mostWays}
+use Rattle.plan.specs.Judging.{isFine}
+use Rattle.plan.specs.declared.Judged.{Judged}
+use Rattle.plan.specs.declared.Judged.the-variants.{Fine, Form, Count}
+use Rattle.plan.specs.declared.Plan.{Plan}
+use Rattle.lines.specs.Head.{headOf}
+use Rattle.lines.specs.Kinds.{kindsOf, noKinds}
+use Rattle.lines.specs.Links.{linksOf, noLinks}
+use Rattle.lines.specs.declared.Head.{Head}
+use Rattle.lines.specs.declared.Head.the-variants.{Counts, Malformed, OutOfLimits}
+use Rattle.lines.specs.declared.Kinds.{Kinds}
+use Rattle.lines.specs.declared.Links.{Links}
+use Rattle.ways.specs.Ways.{waysOf, noWays}
+use Rattle.ways.specs.declared.Ways.{Ways}
+use Rattle.sheet.specs.declared.Sheet.{Sheet}
+
+-- the head has 14 bytes, the line of a booking 8 and that of a link 10; so the links and the ways begin here
+abbrev pub linksPlace : ℕ → ℕ
+linksPlace n = 14 + 8 * n
+
+abbrev pub waysPlace : ℕ → ℕ → ℕ
+waysPlace n m = 14 + 8 * n + 10 * m
+
+-- what the three kinds of lines after the head give; the first way stands on line n + m + 2
+unfoldable pub kindsIn : ℕ → List ℕ → Kinds
+kindsIn n s = kindsOf n 0 (drop 14 s) noKinds
+
+unfoldable pub linksIn : ℕ → ℕ → List ℕ → Links
+linksIn n m s = linksOf n m 0 (drop (linksPlace n) s) 0 0 noLinks noLinks
+
+unfoldable pub waysIn : ℕ → ℕ → ℕ → List ℕ → Ways
+waysIn n m a s = waysOf n (n + m + 2) a 0 (waysPlace n m) (drop (waysPlace n m) s) noWays
+
+-- the plan that an accepted sheet gives: its entries past the counts are 0
+unfoldable pub planOf : ℕ → ℕ → ℕ → List ℕ → Plan
+planOf n m a s = record {
+  n = n;
+  m = m;
+  a = a;
+  kind = kindsIn n s .kind;
+  from = linksIn n m s .from;
+  to = linksIn n m s .to;
+  way = waysIn n m a s .way;
+}
+
+-- a refused sheet gives an empty plan
+unfoldable pub noPlan : Plan
+noPlan = record { n = 0; m = 0; a = 0; kind = noKinds; from = noLinks; to = noLinks; way = noWays }
+
+unfoldable pub refusedOf : Judged → Sheet
+refusedOf j = record { judged = j; plan = noPlan }
+
+-- on past lines that are fine
+abbrev pub past : Judged → Sheet → Sheet
+past j next = cond (isFine j) next (refusedOf j)
+
+-- the ways are to end where the sheet ends; the line after the last way is line n + m + a + 2
+unfoldable pub endOf : ℕ → ℕ → ℕ → List ℕ → Sheet
+endOf n m a s = cond (eqb (waysIn n m a s .next) (length s)) (record { judged = Fine; plan = planOf n m a s }) (refusedOf (Form (n + m + a + 2)))
+
+-- the lines after the head
+unfoldable pub bodyOf : ℕ → ℕ → ℕ → List ℕ → Sheet
+bodyOf n m a s = past (kindsIn n s .judged) (past (linksIn n m s .judged) (past (waysIn n m a s .judged) (endOf n m a s)))
+
+abbrev pub afterHead : Head → List ℕ → Sheet
+afterHead (Counts n m a) s = bodyOf n m a s
+afterHead Malformed s = refusedOf (Form 1)
+afterHead OutOfLimits s = refusedOf (Count 1)
+
+-- what the bytes of a sheet are
+unfoldable pub sheetOf : List ℕ → Sheet
+sheetOf s = afterHead (headOf (take 14 s)) s

@@ -1,0 +1,16 @@
+-- The sheet of a plan: its lines one after the other.
+-- Assumes nothing.
+use Prim.Native.Nat.{ℕ, _+_, _*_}
+use mathlib.Core.List.{List, _++_}
+use Rattle.plan.specs.declared.Plan.{Plan}
+use Rattle.lines.specs.Head.{headText}
+use Rattle.lines.specs.Kinds.{kindsText}
+use Rattle.lines.specs.Links.{linksText}
+use Rattle.ways.specs.WayText.{waysText, waysLength}
+
+unfoldable pub sheetText : Plan → List ℕ
+sheetText p = headText (p .n) (p .m) (p .a) ++ (kindsText (p .n) 0 (p .kind) ++ (linksText (p .m) 0 (p .from) (p .to) ++ waysText (p .a) 0 (p .way)))
+
+-- how many bytes it has
+unfoldable pub sheetLength : Plan → ℕ
+sheetLength p = 14 + 8 * p .n + 10 * p .m + waysLength (p .a) (p .way)

@@ -1,0 +1,84 @@
+// Reads a plan sheet: its plan, or the first line that is refused and why.
+use lines::Head;
+use plan::Judged;
+use plan::Plan;
+ghost use mathlib.Core.Path.{_≡_};
+ghost use Prim.Native.Nat.{_≤_};
+ghost use Rattle.plan.specs.Limits.{mostBookings, mostLinks, mostWays};
+ghost use Rattle.sheet.specs.Sheet.{refusedOf, bodyOf, sheetOf};
+
+// What a sheet is, and its plan, which is empty where the sheet is refused.
+pub struct Sheet {
+    pub judged: Judged,
+    pub plan: Plan,
+}
+
+// A refused sheet.
+pub fn refused(j: Judged) -> Sheet
+    ensures { λ r. ⌜ r ≡ refusedOf j ⌝ }
+{
+    let plan = Plan {
+        n: 0,
+        m: 0,
+        a: 0,
+        kind: [0u8; 64],
+        from: [0u8; 512],
+        to: [0u8; 512],
+        way: [0u64; 16],
+    };
+    Sheet { judged: j, plan }
+}
+
+// Reads the lines after the head of a sheet with n bookings, m links and a ways.
+pub fn read_body(s: &[u8], n: usize, m: usize, a: usize) -> Sheet
+    requires { ⌜ (n ≤ mostBookings) × (m ≤ mostLinks) × (a ≤ mostWays) ⌝ }
+    ensures { λ r. ⌜ r ≡ bodyOf n m a (now (s .entry)) ⌝ }
+{
+    let k = lines::read_kinds(s, 14, n);
+    let kj = k.judged;
+    if !plan::is_fine(kj) {
+        return refused(kj);
+    }
+    let l = lines::read_links(s, 14 + 8 * n, n, m);
+    let lj = l.judged;
+    if !plan::is_fine(lj) {
+        return refused(lj);
+    }
+    let w = ways::read_ways(s, 14 + 8 * n + 10 * m, n, a, n + m + 2);
+    let wj = w.judged;
+    if !plan::is_fine(wj) {
+        return refused(wj);
+    }
+    let next = w.next;
+    if next != s.len() {
+        return refused(Judged::Form(n + m + a + 2));
+    }
+    let kind = k.kind;
+    let from = l.from;
+    let to = l.to;
+    let way = w.way;
+    let plan = Plan {
+        n,
+        m,
+        a,
+        kind,
+        from,
+        to,
+        way,
+    };
+    Sheet {
+        judged: Judged::Fine,
+        plan,
+    }
+}
+
+// Reads a sheet, whatever its bytes are and however many.
+pub fn read_sheet(s: &[u8]) -> Sheet
+    ensures { λ r. ⌜ r ≡ sheetOf (now (s .entry)) ⌝ }
+{
+    match lines::read_head(decimal::part(s, 0, 14)) {
+        Head::Counts(n, m, a) => read_body(s, n, m, a),
+        Head::Malformed => refused(Judged::Form(1)),
+        Head::OutOfLimits => refused(Judged::Count(1)),
+    }
+}

@@ -1,0 +1,197 @@
+-- The lines of all ways: what is written is read back (`ways-read`), accepted lines are what is written of the sets that were read
+-- (`ways-accepted`), and the counts that the lines list add up to the sizes of the sets.
+-- Assumes nothing.
+use mathlib.Core.Path.{_≡_, refl, sym, ap, _∙_}
+use mathlib.Core.Logic.{inl, inr}
+use mathlib.Core.Bool.{true}
+use mathlib.Core.List.{List, _++_, append-assoc}
+use Prim.Native.Nat.{ℕ, zero, suc, _+_, _*_, _^_, _≤_, _<_}
+use native.Mathlib.Nat.{eq-or-lt-of-le, le-refl, add-zero}
+use native.Mathlib.Numerals.{add-one}
+use native.Mathlib.Omega.{arith}
+use lib.ListN.{length, getD, take, drop, set, length-append, length-set}
+use lib.Seq.{drop-at, drop-drop, getD-set-same, getD-set-other}
+use Rattle.bounded.specs.Bounded.{sum}
+use Rattle.bounded.proofs.Bools.{clash}
+use Rattle.sets.specs.Sets.{sizeOf}
+use Rattle.plan.specs.Limits.{mostWays}
+use Rattle.plan.specs.declared.Judged.the-variants.{Fine, Form, Count, Sequence}
+use Rattle.plan.specs.declared.Plan.{Plan}
+use Rattle.plan.proofs.Valid.{Valid}
+use Rattle.plan.proofs.Filled.{filled}
+use Rattle.ways.specs.WayText.{wayText, waysText, sizeAt, waysLength}
+use Rattle.ways.specs.Way.{wayOf}
+use Rattle.ways.specs.Ways.{afterWay, waysOf, noWays, countsListed}
+use Rattle.ways.specs.declared.Way.{Way}
+use Rattle.ways.specs.declared.Way.the-variants.{Members, Malformed, OutOfLimits, OutOfSequence}
+use Rattle.ways.specs.declared.Ways.{Ways}
+use Rattle.ways.proofs.TextLaws.{way-length, length-step, none-yet}
+use Rattle.ways.proofs.WayRoundTrip.{way-read, WayIs, way-accepted}
+
+-- ---- how long the lines are
+
+text-length : (more i : ℕ) (ws : List ℕ) → waysLength i ws + length (waysText more i ws) ≡ waysLength (i + more) ws
+unfolding waysText
+text-length zero i ws = rw (add-zero (waysLength i ws), add-zero i)
+text-length (suc more) i ws =
+    let e : i + suc more ≡ i + 1 + more = omega arith in
+    rw e
+    (omega (arith, text-length more (i + 1) ws, length-step ws i, length-append (wayText (getD ws i 0)) (waysText more (i + 1) ws), way-length (getD ws i 0)))
+
+-- the lines of the first a ways take 6 bytes each, and 4 for each booking of each
+pub ways-length : (a : ℕ) (ws : List ℕ) → length (waysText a 0 ws) ≡ waysLength a ws
+ways-length a ws =
+    let e : 0 + a ≡ a = omega arith in
+    let t : waysLength 0 ws + length (waysText a 0 ws) ≡ waysLength a ws = text-length a 0 ws ∙ rw e in
+    omega (arith, none-yet ws)
+
+-- ---- what is written is read
+
+-- a way that can be written: it has a booking, and bookings of n alone
+pub record Writable (n s : ℕ) : Type 0 where
+  pub some : 1 ≤ sizeOf s
+  pub small : s < 2 ^ n
+
+pub valid-writable : (p : Plan) → Valid p → (k : ℕ) → k < p .a → Writable (p .n) (getD (p .way) k 0)
+valid-writable p v k h = record { some = v .taken k h; small = v .sets k h }
+
+pub ways-read : (n first a i at : ℕ) (ws rest acc : List ℕ) → n ≤ 64 → ((k : ℕ) → i ≤ k → k < i + a → Writable n (getD ws k 0))
+    → waysOf n first a i at (waysText a i ws ++ rest) acc ≡ record { judged = Fine; next = at + length (waysText a i ws); way = filled a i ws acc }
+unfolding waysOf waysText filled
+ways-read n first zero i at ws rest acc h v = ap (λ (p : ℕ). record { judged = Fine; next = p; way = acc }) (sym (add-zero at))
+ways-read n first (suc a) i at ws rest acc h v =
+    let s : ℕ = getD ws i 0 in
+    let more : List ℕ = waysText a (i + 1) ws in
+    let w : Writable n (getD ws i 0) = v i (le-refl i) (omega arith) in
+    let e : (wayText (getD ws i 0) ++ waysText a (i + 1) ws) ++ rest ≡ wayText (getD ws i 0) ++ (waysText a (i + 1) ws ++ rest) =
+    append-assoc (wayText s) more rest in
+    let r : wayOf n (wayText (getD ws i 0) ++ (waysText a (i + 1) ws ++ rest)) ≡ Members (sizeOf (getD ws i 0)) (getD ws i 0) =
+    way-read n s (more ++ rest) h (w .some) (w .small) in
+    let d : drop (6 + 4 * sizeOf (getD ws i 0)) (wayText (getD ws i 0) ++ (waysText a (i + 1) ws ++ rest)) ≡ waysText a (i + 1) ws ++ rest =
+    drop-at (wayText s) (more ++ rest) (6 + 4 * sizeOf s) (way-length s) in
+    let p : at + 6 + 4 * sizeOf (getD ws i 0) + length (waysText a (i + 1) ws) ≡ at + length (wayText (getD ws i 0) ++ waysText a (i + 1) ws) =
+    omega (arith, length-append (wayText s) more, way-length s) in
+    rw (e, r, d)
+    (ways-read n first a (i + 1) (at + 6 + 4 * sizeOf s) ws rest (set acc i s) h (λ k l u. v k (omega arith) (omega arith))
+    ∙ ap (λ (q : ℕ). record { judged = Fine; next = q; way = filled a (i + 1) ws (set acc i s) }) p)
+
+-- ---- what is accepted is what is written of it
+
+-- so many accepted lines, from way i + 1 on: they are the lines of the ways that were read, and those before i + 1 were kept
+pub record Accepted (n a i at next : ℕ) (rest acc ws : List ℕ) : Type 0 where
+  pub text : rest ≡ waysText a i ws ++ drop (length (waysText a i ws)) rest
+  pub place : next ≡ at + length (waysText a i ws)
+  pub writable : (k : ℕ) → i ≤ k → k < i + a → Writable n (getD ws k 0)
+  pub counts : sum (sizeAt ws) i + countsListed a rest ≡ sum (sizeAt ws) (i + a)
+  pub kept : (j : ℕ) → j < i → getD ws j 0 ≡ getD acc j 0
+
+sum-size : (ws : List ℕ) (i : ℕ) → sum (sizeAt ws) (i + 1) ≡ sum (sizeAt ws) i + sizeOf (getD ws i 0)
+unfolding sum sizeAt
+sum-size ws i = rw add-one
+
+-- one line more in front
+module _ (n a i at next k s : ℕ) (rest acc ws : List ℕ) (h : i < length acc) (w : WayIs n k s rest)
+    (t : Accepted n a (i + 1) (at + 6 + 4 * k) next (drop (6 + 4 * k) rest) (set acc i s) ws) where
+  is-way : getD ws i 0 ≡ s
+  is-way = t .kept i (omega arith) ∙ getD-set-same acc i s 0 h
+
+  long : length (wayText (getD ws i 0) ++ waysText a (i + 1) ws) ≡ 6 + 4 * k + length (waysText a (i + 1) ws)
+  long =
+      rw is-way
+      (length-append (wayText s) (waysText a (i + 1) ws) ∙ omega (arith, way-length s, w .counted))
+
+  one-text : rest ≡ waysText (suc a) i ws ++ drop (length (waysText (suc a) i ws)) rest
+  unfolding waysText
+  one-text =
+      let d : drop (length (waysText a (i + 1) ws)) (drop (6 + 4 * k) rest) ≡ drop (length (wayText (getD ws i 0) ++ waysText a (i + 1) ws)) rest =
+      drop-drop (length (waysText a (i + 1) ws)) (6 + 4 * k) rest ∙ rw long in
+      w .text
+      ∙ ap (λ (l : List ℕ). wayText s ++ l) (t .text)
+      ∙ sym (append-assoc (wayText s) (waysText a (i + 1) ws) (drop (length (waysText a (i + 1) ws)) (drop (6 + 4 * k) rest)))
+      ∙ rw (d, is-way)
+
+  one-writable : (j : ℕ) → i ≤ j → j < i + suc a → Writable n (getD ws j 0)
+  one-writable j l u = elim (eq-or-lt-of-le l) [
+    | inl e ↦ rw (← e, is-way) (record { some = omega (arith, w .counted, w .some); small = w .small })
+    | inr m ↦ t .writable j (omega arith) (omega arith)
+  ]
+
+  one-counts : sum (sizeAt ws) i + countsListed (suc a) rest ≡ sum (sizeAt ws) (i + suc a)
+  unfolding countsListed
+  one-counts =
+      let e : i + suc a ≡ i + 1 + a = omega arith in
+      rw (w .listed-count, e) (omega (arith, t .counts, sum-size ws i, ap sizeOf is-way, w .counted))
+
+  one-line : Accepted n (suc a) i at next rest acc ws
+  unfolding waysText
+  one-line = record {
+    text = one-text;
+    place = t .place ∙ omega (arith, long);
+    writable = one-writable;
+    counts = one-counts;
+    kept = λ j l. t .kept j (omega arith) ∙ getD-set-other acc i j s 0 (λ e. omega arith);
+  }
+
+pub ways-accepted : (n first a i at next : ℕ) (rest acc ws : List ℕ) → n ≤ 64 → i + a ≤ length acc
+    → waysOf n first a i at rest acc ≡ record { judged = Fine; next = next; way = ws } → Accepted n a i at next rest acc ws
+unfolding waysOf waysText countsListed
+ways-accepted n first zero i at next rest acc ws h b e =
+    let w : acc ≡ ws = ap (λ (r : Ways). r .way) e in
+    let p : at ≡ next = ap (λ (r : Ways). r .next) e in
+    record {
+      text = refl;
+      place = omega arith;
+      writable = λ k l u. absurd (omega arith);
+      counts = rw (add-zero (sum (sizeAt ws) i), add-zero i);
+      kept = λ j l. ap (λ (r : List ℕ). getD r j 0) (sym w);
+    }
+ways-accepted n first (suc a) i at next rest acc ws h b e =
+    go (λ k s. ways-accepted n first a (i + 1) (at + 6 + 4 * k) next (drop (6 + 4 * k) rest) (set acc i s) ws h (rw length-set (omega arith)))
+    (wayOf n rest) (λ k s. way-accepted n k s rest h) e
+  where
+    go : ((k s : ℕ) → waysOf n first a (i + 1) (at + 6 + 4 * k) (drop (6 + 4 * k) rest) (set acc i s) ≡ record { judged = Fine; next = next; way = ws }
+        → Accepted n a (i + 1) (at + 6 + 4 * k) next (drop (6 + 4 * k) rest) (set acc i s) ws)
+        → (x : Way) → ((k s : ℕ) → x ≡ Members k s → WayIs n k s rest)
+        → afterWay x (first + i) at acc (λ k s. waysOf n first a (i + 1) (at + 6 + 4 * k) (drop (6 + 4 * k) rest) (set acc i s))
+        ≡ record { judged = Fine; next = next; way = ws } → Accepted n (suc a) i at next rest acc ws
+    go more (Members k s) w j = one-line n a i at next k s rest acc ws (omega arith) (w k s refl) (more k s j)
+    go more Malformed w j = let z : Form (first + i) ≡ Fine = ap (λ (r : Ways). r .judged) j in clash true refl (cc)
+    go more OutOfLimits w j = let z : Count (first + i) ≡ Fine = ap (λ (r : Ways). r .judged) j in clash true refl (cc)
+    go more OutOfSequence w j = let z : Sequence (first + i) ≡ Fine = ap (λ (r : Ways). r .judged) j in clash true refl (cc)
+
+-- ---- from the first way on
+
+none-length : length noWays ≡ mostWays
+unfolding noWays
+none-length = refl
+
+no-sum : (ws : List ℕ) → sum (sizeAt ws) 0 ≡ 0
+unfolding sum
+no-sum ws = refl
+
+-- the a lines of an accepted sheet: their text, the place after them, what each way is, and s, the sum of the counts that they list
+pub record Read (n a at next : ℕ) (rest ws : List ℕ) : Type 0 where
+  pub text : rest ≡ waysText a 0 ws ++ drop (waysLength a ws) rest
+  pub place : next ≡ at + waysLength a ws
+  pub writable : (k : ℕ) → k < a → Writable n (getD ws k 0)
+  pub counts : countsListed a rest ≡ sum (sizeAt ws) a
+
+pub all-accepted : (n first a at next : ℕ) (rest ws : List ℕ) → n ≤ 64 → a ≤ mostWays
+    → waysOf n first a 0 at rest noWays ≡ record { judged = Fine; next = next; way = ws } → Read n a at next rest ws
+all-accepted n first a at next rest ws h b e =
+    let t : Accepted n a 0 at next rest noWays ws = ways-accepted n first a 0 at next rest noWays ws h (omega (arith, none-length)) e in
+    let z : 0 + a ≡ a = omega arith in
+    let l : length (waysText a 0 ws) ≡ waysLength a ws = ways-length a ws in
+    record {
+      text = t .text ∙ rw l;
+      place = omega (arith, t .place);
+      writable = λ k u. t .writable k (omega arith) (omega arith);
+      counts = omega (arith, no-sum ws, rw z at (t .counts));
+    }
+
+-- what is written of a ways reads back as those ways
+pub all-read : (n first a at : ℕ) (ws rest : List ℕ) → n ≤ 64 → ((k : ℕ) → k < a → Writable n (getD ws k 0))
+    → waysOf n first a 0 at (waysText a 0 ws ++ rest) noWays ≡ record { judged = Fine; next = at + waysLength a ws; way = filled a 0 ws noWays }
+all-read n first a at ws rest h v =
+    ways-read n first a 0 at ws rest noWays h (λ k l u. v k (omega arith))
+    ∙ ap (λ (q : ℕ). record { judged = Fine; next = at + q; way = filled a 0 ws noWays }) (ways-length a ws)

@@ -1,0 +1,124 @@
+-- The sheet of a record as it is written line by line, and what the writer has in hand at each of its returns.
+-- Assumes nothing.
+use Prim.Native.Nat.{ℕ, _+_, _*_, _≤_, _<_}
+use mathlib.Core.Path.{_≡_, sym, _∙_}
+use mathlib.Core.List.{List, _++_}
+use native.Mathlib.Omega.{arith}
+use native.Mathlib.Nat.{zero-add}
+use lib.ListN.{length, getD, length-append}
+use lib.Seq.{sets, sets-eq}
+use borrow.Author.Tests.{le-leb, lt-leb}
+use Rattle.bounded.proofs.Sums.{count-le}
+use Rattle.sets.specs.Sets.{member, sizeOf}
+use Rattle.decimal.proofs.Stores.{sets-append}
+use Rattle.plan.specs.Record.{recordOf}
+use Rattle.plan.specs.declared.Plan.{Plan}
+use Rattle.plan.specs.declared.Judgement.{Judgement}
+use Rattle.plan.specs.declared.Judgement.the-variants as R
+use Rattle.plan.proofs.LimitLaws.{Limited}
+use Rattle.plan.proofs.Valid.{valid}
+use Rattle.lines.specs.Head.{headText}
+use Rattle.lines.specs.Kinds.{kindsText}
+use Rattle.lines.specs.Links.{linksText}
+use Rattle.lines.proofs.Lengths.{head-length, kinds-length, links-length}
+use Rattle.ways.specs.WayText.{waysText, waysLength}
+use Rattle.ways.proofs.TextLaws.{length-most}
+use Rattle.ways.proofs.WaysRoundTrip.{ways-length}
+use Rattle.sheet.specs.Text.{sheetText, sheetLength}
+use Rattle.writer.specs.Written.{fineAnswer, writtenOf, leftBy, leaves}
+use Rattle.writer.specs.declared.Written.{Written}
+use Rattle.writer.specs.declared.Written.the-variants.{Length, Count, Sequence, Short}
+
+-- ---- lengths
+
+pub sheet-length : (p : Plan) → length (sheetText p) ≡ sheetLength p
+unfolding sheetText sheetLength
+sheet-length p =
+    let h : List ℕ = headText (p .n) (p .m) (p .a) in
+    let k : List ℕ = kindsText (p .n) 0 (p .kind) in
+    let l : List ℕ = linksText (p .m) 0 (p .from) (p .to) in
+    let w : List ℕ = waysText (p .a) 0 (p .way) in
+    omega (
+      arith,
+      length-append h (k ++ (l ++ w)),
+      length-append k (l ++ w),
+      length-append l w,
+      head-length (p .n) (p .m) (p .a),
+      kinds-length (p .n) 0 (p .kind),
+      links-length (p .m) 0 (p .from) (p .to),
+      ways-length (p .a) (p .way),
+    )
+
+-- whatever the sets are, their lines take no more than this
+pub ways-most : (k a : ℕ) (ws : List ℕ) → k ≡ waysLength a ws → k ≤ 262 * a
+unfolding sizeOf
+ways-most k a ws e = omega (arith, length-most 64 a ws (λ i h. count-le (member (getD ws i 0)) 64))
+
+-- ---- the four kinds of lines, stored one after the other
+
+pub all-lines : (p : Plan) (d x y z v : List ℕ) → x ≡ sets d 0 (headText (p .n) (p .m) (p .a)) → y ≡ sets x 14 (kindsText (p .n) 0 (p .kind))
+    → z ≡ sets y (14 + 8 * p .n) (linksText (p .m) 0 (p .from) (p .to)) → v ≡ sets z (14 + 8 * p .n + 10 * p .m) (waysText (p .a) 0 (p .way)) → v ≡ sets d 0 (sheetText p)
+unfolding sheetText
+all-lines p d x y z v f g h i =
+    let hd : List ℕ = headText (p .n) (p .m) (p .a) in
+    let k : List ℕ = kindsText (p .n) 0 (p .kind) in
+    let l : List ℕ = linksText (p .m) 0 (p .from) (p .to) in
+    let w : List ℕ = waysText (p .a) 0 (p .way) in
+    let a1 : 0 + length (headText (p .n) (p .m) (p .a)) ≡ 14 = rw (head-length (p .n) (p .m) (p .a)) in
+    let a2 : 14 + length (kindsText (p .n) 0 (p .kind)) ≡ 14 + 8 * p .n = rw kinds-length in
+    let a3 : 14 + 8 * p .n + length (linksText (p .m) 0 (p .from) (p .to)) ≡ 14 + 8 * p .n + 10 * p .m = rw links-length in
+    let s1 : sets d 0 (hd ++ (k ++ (l ++ w))) ≡ sets x 14 (k ++ (l ++ w)) = sets-append d 0 hd (k ++ (l ++ w)) ∙ rw (a1, f) in
+    let s2 : sets x 14 (k ++ (l ++ w)) ≡ sets y (14 + 8 * p .n) (l ++ w) = sets-append x 14 k (l ++ w) ∙ rw (a2, g) in
+    let s3 : sets y (14 + 8 * p .n) (l ++ w) ≡ v = sets-append y (14 + 8 * p .n) l w ∙ rw (a3, i, h) in
+    sym (s1 ∙ s2 ∙ s3)
+
+module _ (p : Plan) (k : ℕ) (e : k ≡ sheetLength p) where
+  the-length : length (sheetText p) ≡ k
+  the-length = sheet-length p ∙ sym e
+
+  pub too-short : (size : ℕ) → size < k → Short ≡ fineAnswer p size
+  unfolding fineAnswer
+  too-short size h = rw (the-length, lt-leb _ _ h)
+
+  pub left-alone : (d : List ℕ) → length d < k → d ≡ leftBy (fineAnswer p (length d)) p d
+  left-alone d h = rw (← (too-short (length d) h))
+
+  pub its-length : (size : ℕ) → k ≤ size → Length k ≡ fineAnswer p size
+  unfolding fineAnswer
+  its-length size h = rw (the-length, le-leb _ _ h)
+
+  pub written : (d v : List ℕ) → k ≤ length d → v ≡ sets d 0 (sheetText p) → v ≡ leftBy (fineAnswer p (length d)) p d
+  written d v r i =
+      let o : 0 + length (sheetText p) ≤ length d = omega (arith, the-length) in
+      i ∙ sets-eq (sheetText p) d 0 o ∙ rw (← (its-length (length d) r), the-length, zero-add)
+
+-- ---- the judgement of the record comes first
+
+pub fine-limits : (p : Plan) (r : Judgement) → r ≡ recordOf p → r ≡ R.Fine → Limited (p .n) (p .m) (p .a)
+fine-limits p r e g = valid p (sym e ∙ g) .counts
+
+module _ (p : Plan) (r : Judgement) (e : r ≡ recordOf p) (d : List ℕ) where
+  module _ (g : r ≡ R.Fine) where
+    pub fine-answer : (a : Written) → a ≡ fineAnswer p (length d) → a ≡ writtenOf p (length d)
+    unfolding writtenOf
+    fine-answer a i = i ∙ rw (← e, g)
+
+    pub fine-left : (x : List ℕ) → x ≡ leftBy (fineAnswer p (length d)) p d → x ≡ leaves p d
+    unfolding leaves writtenOf
+    fine-left x i = i ∙ rw (← e, g)
+
+  pub count-answer : r ≡ R.Count → Count ≡ writtenOf p (length d)
+  unfolding writtenOf
+  count-answer g = rw (← e, g)
+
+  pub count-left : r ≡ R.Count → d ≡ leaves p d
+  unfolding leaves writtenOf
+  count-left g = rw (← e, g)
+
+  pub sequence-answer : r ≡ R.Sequence → Sequence ≡ writtenOf p (length d)
+  unfolding writtenOf
+  sequence-answer g = rw (← e, g)
+
+  pub sequence-left : r ≡ R.Sequence → d ≡ leaves p d
+  unfolding leaves writtenOf
+  sequence-left g = rw (← e, g)

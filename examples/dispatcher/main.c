@@ -1,0 +1,166 @@
+/*
+ * A dispatcher over the campaign library, with simulated desks.
+ *
+ *     dispatcher [--seed N] [--campaigns N] PLANFILE
+ *
+ * One campaign writes its log; several are quiet and end in a summary. The
+ * first has seed N, the next N + 1 and so on, so each can be repeated alone.
+ */
+#include "dispatch.h"
+#include "words.h"
+
+#include <errno.h>
+#include <inttypes.h>
+#include <stdlib.h>
+#include <string.h>
+
+enum status {
+    DONE = 0,
+    FAULT = 1,       /* the library did what it must not */
+    BAD_OPTION = 2,
+    NO_FILE = 3,     /* the plan file can't be read */
+    SHORT_FILE = 4,  /* the plan file ends early */
+    BAD_SHEET = 5,   /* the sheet is refused for another reason */
+    NO_LOG = 6       /* the log can't be written */
+};
+
+static const char usage[] =
+    "usage: dispatcher [--seed N] [--campaigns N] PLANFILE\n"
+    "  --seed N        what the desks' answers are drawn from (1)\n"
+    "  --campaigns N   run N campaigns quietly, each with the next seed, and print a summary\n"
+    "status: 0 done, 1 fault in the library, 2 wrong option, 3 file can't be read,\n"
+    "        4 file ends early, 5 sheet refused, 6 log can't be written\n";
+
+struct options {
+    uint64_t seed;
+    uint64_t campaigns; /* 0: one, with its log */
+    const char *path;
+    bool help;
+};
+
+static bool take_number(const char *text, uint64_t *number)
+{
+    /* strtoull would take a sign and spaces too. */
+    if (text == NULL || *text == '\0' || strspn(text, "0123456789") != strlen(text))
+        return false;
+    errno = 0;
+    unsigned long long value = strtoull(text, NULL, 10);
+    *number = value;
+    return errno == 0;
+}
+
+static bool complain(const char *what, const char *about)
+{
+    fprintf(stderr, "dispatcher: %s%s%s\n%s", what, about != NULL ? ": " : "", about != NULL ? about : "", usage);
+    return false;
+}
+
+static bool take_path(struct options *options, const char *path)
+{
+    if (options->path != NULL)
+        return complain("more than one plan file", path);
+    options->path = path;
+    return true;
+}
+
+static bool take_options(struct options *options, char **words)
+{
+    *options = (struct options) {.seed = 1};
+    for (; *words != NULL; words++) {
+        if (strcmp(*words, "--help") == 0) {
+            options->help = true;
+            return true;
+        }
+        bool seed = strcmp(*words, "--seed") == 0;
+        if (seed || strcmp(*words, "--campaigns") == 0) {
+            const char *name = *words++;
+            uint64_t *number = seed ? &options->seed : &options->campaigns;
+            if (!take_number(*words, number) || (!seed && *number == 0))
+                return complain("a number must follow, for --campaigns at least 1", name);
+        } else if ((*words)[0] == '-' && (*words)[1] != '\0') {
+            return complain("unknown option", *words);
+        } else if (!take_path(options, *words)) {
+            return false;
+        }
+    }
+    return options->path != NULL || complain("no plan file given", NULL);
+}
+
+/* The sheet is refused: say why, and tell a file that breaks off from others. */
+static enum status refuse_sheet(const struct plan *plan, const char *path, uint32_t answer)
+{
+    uint32_t refusal = campaign_refusal_of(answer);
+    uint32_t place = campaign_place_of(answer);
+    if (refusal == CAMPAIGN_FORM && plan_breaks_off(plan)) {
+        fprintf(stderr, "dispatcher: %s: the file ends early, in line %u of the sheet\n", path, (unsigned) place);
+        return SHORT_FILE;
+    }
+    fprintf(stderr, "dispatcher: %s: ", path);
+    words_write_refusal(stderr, refusal, place);
+    fputs("\n", stderr);
+    return BAD_SHEET;
+}
+
+static enum status load(struct plan *plan, const char *path)
+{
+    if (!plan_load(plan, path)) {
+        fprintf(stderr, "dispatcher: %s: can't be read: %s\n", path, strerror(errno));
+        return NO_FILE;
+    }
+    uint32_t answer = campaign_check(plan->sheet, plan->length);
+    if (campaign_kind_of(answer) != CAMPAIGN_ACCEPTED)
+        return refuse_sheet(plan, path, answer);
+    if (!plan_parse(plan)) {
+        fprintf(stderr, "dispatcher: FAULT: %s was accepted but is no sheet\n", path);
+        return FAULT;
+    }
+    return DONE;
+}
+
+static void write_summary(const struct plan *plan, const struct tally *t, const char *path)
+{
+    printf("%s: %lu campaigns, each ended with exactly one way or nothing held\n", path, t->campaigns);
+    for (unsigned way = 1; way <= plan->ways; way++)
+        printf("  flown by way %2u: %lu\n", way, t->flown[way]);
+    printf("  called off:      %lu\n", t->called_off);
+    printf("  requests %lu (confirmed %lu, refused %lu), returns %lu (taken back %lu, kept %lu)\n", t->requests,
+           t->confirmed, t->declined, t->returns, t->returned, t->kept);
+    printf("  ways changed %lu times; %lu replies fitted nothing and were refused\n", t->switches, t->misfits);
+}
+
+static enum status run_campaigns(const struct plan *plan, const struct options *options)
+{
+    struct tally tally = {0};
+    if (options->campaigns == 0)
+        return dispatch(plan, options->seed, stdout, &tally) ? DONE : FAULT;
+    for (uint64_t i = 0; i < options->campaigns; i++)
+        if (!dispatch(plan, options->seed + i, NULL, &tally))
+            return FAULT;
+    write_summary(plan, &tally, options->path);
+    return DONE;
+}
+
+static enum status flush_log(enum status status)
+{
+    if (fflush(stdout) == 0 && !ferror(stdout))
+        return status;
+    fprintf(stderr, "dispatcher: the log can't be written: %s\n", strerror(errno));
+    return status == DONE ? NO_LOG : status;
+}
+
+int main(int count, char **words)
+{
+    struct options options;
+    if (!take_options(&options, count > 0 ? words + 1 : words))
+        return BAD_OPTION;
+    if (options.help) {
+        fputs(usage, stdout);
+        return flush_log(DONE);
+    }
+    struct plan plan;
+    enum status status = load(&plan, options.path);
+    if (status == DONE)
+        status = flush_log(run_campaigns(&plan, &options));
+    plan_free(&plan);
+    return status;
+}

@@ -1,0 +1,52 @@
+#include "words.h"
+
+#include "campaign.h"
+
+const char *words_for_kind(char kind)
+{
+    switch (kind) {
+    case 'C': return "returnable";
+    case 'P': return "pivot";
+    case 'R': return "repeatable";
+    default: return "of no known kind";
+    }
+}
+
+static const char *before_place(uint32_t refusal)
+{
+    switch (refusal) {
+    case CAMPAIGN_FORM: return "the sheet ends early, goes on too long, or has a malformed line: line";
+    case CAMPAIGN_COUNT: return "a count is outside its limits: line";
+    case CAMPAIGN_NUMBER: return "a number is out of sequence, not rising, or no booking: line";
+    case CAMPAIGN_CIRCLE: return "links run in a circle: a booking comes before itself: booking";
+    case CAMPAIGN_WAY_NOT_CLOSED: return "a way lacks what comes before one of its bookings: way";
+    case CAMPAIGN_UNUSED: return "a booking is in no way: booking";
+    case CAMPAIGN_WAY_TWICE: return "a way equals an earlier one: way";
+    case CAMPAIGN_MISFIT: return "the reply fits nothing that was asked: booking";
+    default: return NULL;
+    }
+}
+
+static void write_stranding(FILE *out, uint32_t place)
+{
+    fprintf(out,
+            "the campaign could be stranded: if booking %u is refused on way %u, bookings that can't be given back "
+            "may be held, and no later way is safe for them",
+            (unsigned) campaign_stranded_booking(place), (unsigned) campaign_stranded_way(place));
+}
+
+void words_write_refusal(FILE *out, uint32_t refusal, uint32_t place)
+{
+    const char *words = before_place(refusal);
+    fprintf(out, "refusal %u: ", (unsigned) refusal);
+    if (words != NULL)
+        fprintf(out, "%s %u", words, (unsigned) place);
+    else if (refusal == CAMPAIGN_STRANDING)
+        write_stranding(out, place);
+    else if (refusal == CAMPAIGN_SHORT_BUFFER)
+        fputs("a buffer is too short for the text", out);
+    else if (refusal == CAMPAIGN_UNSOUND)
+        fputs("the state is damaged or belongs to another sheet", out);
+    else
+        fputs("a number this program does not know", out);
+}

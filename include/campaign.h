@@ -1,0 +1,235 @@
+/*
+ * Booking coordinator for flight test campaigns: the four calls.
+ *
+ * A plan sheet lists a campaign's bookings, which comes before which, and the
+ * ways to fly it, the most wanted first. The coordinator says which booking to
+ * request or to return next and takes in what the desks reply, until either
+ * one whole way is held and nothing else, or nothing is held at all.
+ *
+ * How a dispatcher uses it:
+ *
+ *     uint8_t state[CAMPAIGN_STATE_LENGTH];
+ *     answer = campaign_start(sheet, length, state, sizeof state);
+ *     then, until the end:
+ *         answer = campaign_next_order(sheet, length, state, sizeof state);
+ *         request or return: send it to the booking's desk, ask again at once;
+ *         wait:              await a reply of any desk, hand it to
+ *                            campaign_reply, ask again;
+ *         flown, called off: done.
+ *
+ * Nothing is kept between the calls: all of a campaign stands in its sheet and
+ * its state. Store the state before an order is sent and a run can go on after
+ * a crash. Calls on different states may run at the same time; while a call
+ * runs, nobody else may write its sheet or touch its state.
+ *
+ * Pointers must not be null and must reach as many bytes as their length says;
+ * sheet and state must not overlap. Beyond that every byte and every length is
+ * allowed: what is wrong with them is answered by a refusal. A refused call
+ * leaves every lent byte as it was.
+ *
+ *
+ * The plan sheet
+ * --------------
+ * Each line ends in a line feed (byte 10). Each number fills four columns,
+ * right-justified with spaces, without leading zeros. In order:
+ *
+ *     P   n   m   a      1 to 64 bookings, 0 to 512 links, 1 to 16 ways
+ *     B   b k            n lines, b = 1, 2, .. n; kind k is C, P or R
+ *     L   u   v          m lines: u comes before v; rising by u, then by v
+ *     A   k   b   b ..   a lines: a way, its k bookings, rising
+ *
+ * Nothing else stands on a line and nothing follows the last one.
+ *
+ * Kinds of booking:
+ *     C  returnable: may be refused; once held it can be given back.
+ *     P  pivot:      may be refused; once held it can't be given back.
+ *     R  repeatable: is confirmed if it is asked for often enough; once held
+ *                    it can't be given back.
+ *
+ * Example, a flight with a tanker (1 range slot, 2 tanker, 3 chase aircraft,
+ * or else 4 ground cameras):
+ *
+ *     P   4   3   2
+ *     B   1 C
+ *     B   2 P
+ *     B   3 C
+ *     B   4 R
+ *     L   1   2
+ *     L   2   3
+ *     L   2   4
+ *     A   3   1   2   3
+ *     A   3   1   2   4
+ */
+#ifndef CAMPAIGN_H
+#define CAMPAIGN_H
+
+#include <stddef.h>
+#include <stdint.h>
+
+#ifdef __cplusplus
+extern "C" {
+#endif
+
+/* Limits of a sheet. */
+#define CAMPAIGN_MOST_BOOKINGS 64
+#define CAMPAIGN_MOST_LINKS 512
+#define CAMPAIGN_MOST_WAYS 16
+#define CAMPAIGN_LONGEST_SHEET 9838
+
+/* Bytes of a run state: the current way (0: calling off), then one code for
+   each of 64 bookings. Booking b has byte b; bytes past the last booking are 0. */
+#define CAMPAIGN_STATE_LENGTH 65
+
+/* What each booking's byte says. */
+enum campaign_code {
+    CAMPAIGN_FREE = 0,      /* not asked for, or given back */
+    CAMPAIGN_REQUESTED = 1, /* asked for, its desk has not answered */
+    CAMPAIGN_HELD = 2,      /* confirmed */
+    CAMPAIGN_LOST = 3,      /* refused for good */
+    CAMPAIGN_RETURNING = 4  /* its return was asked for, no answer yet */
+};
+
+/* The kind of an answer; in brackets its place. */
+enum campaign_kind {
+    /* Nothing was done, see the refusal (place: with the refusal). */
+    CAMPAIGN_REFUSED = 0,
+    /* Send this booking's desk a request (the booking). */
+    CAMPAIGN_REQUEST = 1,
+    /* Ask this booking's desk to take it back (the booking). */
+    CAMPAIGN_RETURN = 2,
+    /* Nothing to send until some desk replies (0). */
+    CAMPAIGN_WAIT = 3,
+    /* The end: one whole way is held and nothing else (the way). */
+    CAMPAIGN_FLOWN = 4,
+    /* The end: nothing is held (0). */
+    CAMPAIGN_CALLED_OFF = 5,
+    /* check and start: the sheet passes (0); reply: it was taken (the booking). */
+    CAMPAIGN_ACCEPTED = 6
+};
+
+/*
+ * The refusals; in brackets the place. Lines are counted from 1. Of several
+ * faults the first is given: 1 to 3 line by line from the top (on one line 1,
+ * then 2, then 3), then 4 to 8, then 11, then 9.
+ */
+enum campaign_refusal {
+    /* Not refused. */
+    CAMPAIGN_NO_REFUSAL = 0,
+    /* The sheet ends early, a line is not of its form, or bytes follow the
+       last line (the line; for bytes too many the line after the last). */
+    CAMPAIGN_FORM = 1,
+    /* A count is outside its limits (the line). */
+    CAMPAIGN_COUNT = 2,
+    /* A number is out of sequence, not rising, or not a booking (the line). */
+    CAMPAIGN_NUMBER = 3,
+    /* A booking comes before itself, by links in a circle (the lowest such
+       booking). */
+    CAMPAIGN_CIRCLE = 4,
+    /* A way has a booking but not all that come before it (the first such
+       way). */
+    CAMPAIGN_WAY_NOT_CLOSED = 5,
+    /* A booking is in no way (the lowest such booking). */
+    CAMPAIGN_UNUSED = 6,
+    /* A way equals an earlier one (the first such way). */
+    CAMPAIGN_WAY_TWICE = 7,
+    /* A stranding point: if this booking is refused while that way is flown,
+       bookings that can't be given back may be held already, and no later way
+       is a safe refuge for them (way * 256 + booking; first way, then lowest
+       booking; see campaign_stranded_way and campaign_stranded_booking). */
+    CAMPAIGN_STRANDING = 8,
+    /* The reply does not fit: Y and N need a requested booking, G and K a
+       returning one; or there is no such letter or booking (the booking given,
+       0 if it is above 64). */
+    CAMPAIGN_MISFIT = 9,
+    /* A buffer is too short for the text to be written (0). None of the four
+       calls gives it. */
+    CAMPAIGN_SHORT_BUFFER = 10,
+    /* The state has not 65 bytes, or is none that a run of this sheet can
+       reach by these rules: damaged, or of another sheet (0). */
+    CAMPAIGN_UNSOUND = 11
+};
+
+/* Letters of a reply. */
+enum campaign_letter {
+    CAMPAIGN_CONFIRMED = 'Y', /* to a request: it is held now */
+    CAMPAIGN_DECLINED = 'N',  /* to a request: lost if C or P; if R ask again */
+    CAMPAIGN_RETURNED = 'G',  /* to a return: it is free now */
+    CAMPAIGN_KEPT = 'K'       /* to a return: it failed, it is still held */
+};
+
+/* An answer is kind * 16777216 + refusal * 65536 + place. */
+
+static inline uint32_t campaign_kind_of(uint32_t answer)
+{
+    return answer >> 24;
+}
+
+static inline uint32_t campaign_refusal_of(uint32_t answer)
+{
+    return (answer >> 16) & 0xFFu;
+}
+
+static inline uint32_t campaign_place_of(uint32_t answer)
+{
+    return answer & 0xFFFFu;
+}
+
+/* The two parts of a stranding point's place. */
+
+static inline uint32_t campaign_stranded_way(uint32_t place)
+{
+    return place >> 8;
+}
+
+static inline uint32_t campaign_stranded_booking(uint32_t place)
+{
+    return place & 0xFFu;
+}
+
+/*
+ * Is this a sheet that can be flown without being stranded?
+ *
+ * Accepted with place 0, or refused with 1 to 8. Writes nothing.
+ */
+uint32_t campaign_check(const uint8_t *sheet, size_t sheet_len);
+
+/*
+ * Begins a campaign: way 1, every booking free.
+ *
+ * Accepted with place 0, and the 65 bytes of the state are written whatever
+ * stood there; or refused with 1 to 8 as by check, or with 11 if state_len is
+ * not 65.
+ */
+uint32_t campaign_start(const uint8_t *sheet, size_t sheet_len,
+                        uint8_t *state, size_t state_len);
+
+/*
+ * What to do now.
+ *
+ * Request or return: the order is marked in the state as given; send it, and
+ * ask again, for more orders may follow before any reply. Wait, flown and
+ * called off leave the state unchanged. Refused with 1 to 8 or 11.
+ *
+ * With no reply outstanding the answer is never wait.
+ */
+uint32_t campaign_next_order(const uint8_t *sheet, size_t sheet_len,
+                             uint8_t *state, size_t state_len);
+
+/*
+ * Takes in what a desk replied: one of the four letters, and the booking.
+ *
+ * Accepted with the booking as place, and the state says what became of it.
+ * If that leaves the current way without a booking it needs and no request is
+ * open any more, the first way that can still be flown becomes current, or
+ * calling off begins. Refused with 1 to 8, 11 or 9; a reply that comes twice
+ * is refused with 9 and does no harm.
+ */
+uint32_t campaign_reply(const uint8_t *sheet, size_t sheet_len,
+                        uint8_t *state, size_t state_len,
+                        uint8_t letter, uint32_t booking);
+
+#ifdef __cplusplus
+}
+#endif
+
+#endif
