@@ -53,7 +53,9 @@ module _ (s : List ℕ) (b₀ : ℕ) (st₀ : List ℕ) (b : ℕ) (st st′ : Li
     reply-heard h a k (line, f, g) n = go (replyOf line) (sym n ∙ f) g
       where
         go : (y : Reply) → Answer a ≡ heardOf s st y → st′ ≡ heardLeaves s st y → Drilled s b₀ st₀ a st′
-        go (Given letter booking) p q = let z : a ≡ askedCall s st (replied letter booking) = cc in heard letter booking d (sym e ∙ k) (record { answered = z; leaves = q })
+        go (Given letter booking) p q =
+            let z : a ≡ askedCall s st (replied letter booking) = cc in
+            heard letter booking d (sym e ∙ k) (record { answered = z; leaves = q })
         go Misformed p q = let z : _≡_ {A = ℕ} 0 1 = cc in absurd (omega arith)
 
   -- nothing heard, nothing done
@@ -69,7 +71,8 @@ pub played : (s : List ℕ) (b₀ : ℕ) (st₀ : List ℕ) (b : ℕ) (st : List
 played s b₀ st₀ b st d = (b, d)
 
 -- begun by start
-pub from-start : (s lent : List ℕ) (b₀ : ℕ) (st₀ st : List ℕ) → b₀ ≡ startCall s lent → st₀ ≡ startLeaves s lent → Played s b₀ st₀ st → DrilledFromStart s lent st
+pub from-start : (s lent : List ℕ) (b₀ : ℕ) (st₀ st : List ℕ) → b₀ ≡ startCall s lent → st₀ ≡ startLeaves s lent → Played s b₀ st₀ st
+    → DrilledFromStart s lent st
 from-start s lent b₀ st₀ st e f d = rw (← e, ← f) d
 
 -- ---- a list of calls
@@ -79,7 +82,8 @@ unfolding leftOn
 left-last s st [] q = refl
 left-last s st (p ∷ qs) q = left-last s (askedLeaves s st p) qs q
 
-one-more : (s st₀ st st′ : List ℕ) (q : Asked) → (qs : List Asked) × (st ≡ leftOn s st₀ qs) → st′ ≡ askedLeaves s st q → (qs : List Asked) × (st′ ≡ leftOn s st₀ qs)
+one-more : (s st₀ st st′ : List ℕ) (q : Asked) → (qs : List Asked) × (st ≡ leftOn s st₀ qs) → st′ ≡ askedLeaves s st q
+    → (qs : List Asked) × (st′ ≡ leftOn s st₀ qs)
 one-more s st₀ st st′ q (qs, e) f = (qs ++ (q ∷ []), f ∙ rw e (sym (left-last s st₀ qs q)))
 
 -- the drill's state is what a list of calls leaves of the one that it began with

@@ -13,7 +13,10 @@ returns-3 : tie.Need-returns-3
 returns-3 c = no-feed _ (c .if2 .taken)
 
 cast-t9 : tie.Need-cast-t9
-cast-t9 c = let s = few _ _ _ (c .before .before .before .before .before .before .field-at .ensures) (c .before .before .before .before .booking .given .1) in search needs
+cast-t9 c =
+    let b = c .before .before .before .before in
+    let s = few _ _ _ (b .before .before .field-at .ensures) (b .booking .given .1) in
+    search needs
 
 returns-4 : tie.Need-returns-4
 returns-4 c = search given
