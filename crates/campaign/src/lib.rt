@@ -232,7 +232,7 @@ pub extern "C" fn campaign_reply(sheet: &[u8], state: &mut [u8], letter: u8, boo
     }
     let t = reply_to(r, g, letter, booking);
     let taken = t.taken;
-    let after = t.run;
-    run::store(after, state);
+    let moved = t.run;
+    run::store(moved, state);
     reply_bits(booking, taken)
 }
