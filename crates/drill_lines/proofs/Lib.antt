@@ -1,0 +1,3 @@
+pub mod PrintLaws
+pub mod ReplyLaws
+pub mod StepLaws

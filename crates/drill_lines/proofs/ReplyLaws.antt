@@ -1,0 +1,82 @@
+-- What a reader of a reply has in hand at each of its returns, and what that says of `replyOf`; and that a reply is read back as it was
+-- written.
+-- Assumes nothing.
+use Prim.Native.Nat.{ℕ, _^_, _<_}
+use mathlib.Core.Path.{_≡_, refl, ap, _∙_}
+use mathlib.Core.List.{List, [], _∷_, _++_}
+use mathlib.Core.Bool.{Bool, true, false, cond}
+use native.Mathlib.Omega.{arith}
+use lib.ListN.{length, getD, drop, drop-of-length-le}
+use lib.Seq.{drop-cons}
+use Rattle.decimal.specs.Decimal.{columns, columnsTo, sameBytes, fieldAt, numberAt}
+use Rattle.decimal.specs.declared.Field.{Field}
+use Rattle.decimal.specs.declared.Field.the-variants.{Number, Fault}
+use Rattle.decimal.proofs.Bytes.{same-refl, same-eq, same-ne}
+use Rattle.decimal.proofs.Fields.{fault-in, number-is, number-small, field-then, number-in}
+use Rattle.drill_lines.specs.Printed.{numberText}
+use Rattle.drill_lines.specs.Replies.{isReply, replyOf}
+use Rattle.drill_lines.specs.declared.Reply.the-variants.{Given, Misformed}
+
+-- ---- of another form
+
+module _ (line : List ℕ) where
+  text : List ℕ
+  text = numberText (getD line 0 0) (numberAt 4 1 line)
+
+  not-text : (line ≡ text → ⊥) → Misformed ≡ replyOf line
+  unfolding replyOf isReply text
+  not-text h = rw (same-ne line (numberText (getD line 0 0) (numberAt 4 1 line)) h)
+
+  pub other-size : (length line ≡ 6 → ⊥) → Misformed ≡ replyOf line
+  unfolding text numberText columns columnsTo
+  other-size h = not-text (λ e. h (ap length e))
+
+  pub no-booking : (f : Field) → f ≡ fieldAt 4 1 line → f ≡ Fault → Misformed ≡ replyOf line
+  unfolding text numberText columns columnsTo
+  no-booking f e g = not-text (fault-in 4 1 line f e text g refl)
+
+  pub no-feed : (getD line 5 0 ≡ 10 → ⊥) → Misformed ≡ replyOf line
+  unfolding text numberText columns columnsTo
+  no-feed h = not-text (λ e. h (ap (λ (l : List ℕ). getD l 5 0) e))
+
+-- ---- of this form
+
+pub few : (line : List ℕ) (f : Field) (y : ℕ) → f ≡ fieldAt 4 1 line → f ≡ Number y → y < 10000
+few line f y e g = number-small 4 1 line f e y g
+
+pub given : (line : List ℕ) (f : Field) (y : ℕ) → length line ≡ 6 → f ≡ fieldAt 4 1 line → f ≡ Number y → getD line 5 0 ≡ 10
+    → Given (getD line 0 0) y ≡ replyOf line
+unfolding replyOf isReply numberText
+given line f y n e g c =
+    let s : line ≡ getD line 0 0 ∷ drop 1 line = drop-cons line 0 0 (omega arith) in
+    let t : drop 1 line ≡ columns 4 y ++ drop 5 line = field-then 4 1 line f e y g in
+    let u : drop 5 line ≡ getD line 5 0 ∷ drop 6 line = drop-cons line 5 0 (omega arith) in
+    let v : drop 6 line ≡ [] = drop-of-length-le line {i = 6} (omega arith) in
+    let w : line ≡ getD line 0 0 ∷ (columns 4 y ++ (10 ∷ [])) = s ∙ ap (λ (l : List ℕ). getD line 0 0 ∷ l) (t ∙ rw (u, c, v)) in
+    let z : y ≡ numberAt 4 1 line = number-is 4 1 line f e y g in
+    let m : sameBytes line (getD line 0 0 ∷ (columns 4 y ++ (10 ∷ []))) ≡ true = rw (← w) (same-refl line) in
+    rw (← z, m)
+
+-- ---- both ways
+
+-- a reply that is written is read
+pub reply-read : (letter b : ℕ) → b < 10 ^ 4 → replyOf (numberText letter b) ≡ Given letter b
+unfolding replyOf isReply numberText columns columnsTo
+reply-read letter b h =
+    let z : numberAt 4 1 (letter ∷ (columns 4 b ++ (10 ∷ []))) ≡ b = number-in 4 1 b (letter ∷ (columns 4 b ++ (10 ∷ []))) h refl in
+    rw (z, same-refl (letter ∷ (columns 4 b ++ (10 ∷ []))))
+
+-- a line that is read is the text of its reply
+pub read-reply : (line : List ℕ) (letter b : ℕ) → replyOf line ≡ Given letter b → line ≡ numberText letter b
+unfolding replyOf isReply
+read-reply line letter b = go (sameBytes line text′) (same-eq line text′)
+  where
+    text′ : List ℕ
+    text′ = numberText (getD line 0 0) (numberAt 4 1 line)
+
+    go : (t : Bool) → (t ≡ true → line ≡ text′) → cond t (Given (getD line 0 0) (numberAt 4 1 line)) Misformed ≡ Given letter b → line ≡ numberText letter b
+    go true h e =
+        let l : getD line 0 0 ≡ letter = cc in
+        let y : numberAt 4 1 line ≡ b = cc in
+        h refl ∙ rw (l, y)
+    go false h e = let z : _≡_ {A = ℕ} 0 1 = cc in absurd (omega arith)

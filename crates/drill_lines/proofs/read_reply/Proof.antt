@@ -1,0 +1,37 @@
+use Rattle.drill_lines.proofs.ReplyLaws.{other-size, no-booking, no-feed, few, given}
+use borrow.Author.Needs.{needs}
+use Rattle.drill_lines.proofs.read_reply.Statement.{statement}
+use Rattle.drill_lines.proofs.read_reply.Tie as tie
+
+returns : tie.Need-returns
+returns c = other-size _ (c .if1 .taken)
+
+returns-2 : tie.Need-returns-2
+returns-2 c = search no-booking
+
+returns-3 : tie.Need-returns-3
+returns-3 c = no-feed _ (c .if2 .taken)
+
+cast-t9 : tie.Need-cast-t9
+cast-t9 c =
+    let b = c .before .before .before .before in
+    let s = few _ _ _ (b .before .before .field-at .ensures) (b .booking .given .1) in
+    search needs
+
+returns-4 : tie.Need-returns-4
+returns-4 c = search given
+
+pub read-reply-spec : {M : Type 1} → statement M
+read-reply-spec =
+    tie.close
+    (tie.spec
+    returns
+    (search needs)
+    (search needs)
+    (search needs)
+    returns-2
+    (search needs)
+    returns-3
+    (search needs)
+    cast-t9
+    returns-4)

@@ -1,0 +1,4 @@
+// The drill without a plan.txt, which counts as empty.
+fn main() {
+    drill_run::run();
+}

@@ -1,0 +1,94 @@
+-- What the drill has in hand after a call, and what that says of the calls so far; and that these are a list of calls, of which the whole
+-- campaign's claim speaks.
+-- Assumes nothing.
+use Prim.Native.Nat.{ℕ}
+use mathlib.Core.Path.{_≡_, refl, sym, _∙_}
+use mathlib.Core.List.{List, [], _∷_, _++_}
+use native.Mathlib.Omega.{arith}
+use Rattle.guarantee.specs.Machine.{Asked, nextOrder, replied}
+use Rattle.campaign.specs.Calls.{startCall, startLeaves, askedCall, askedLeaves}
+use Rattle.campaign.specs.Lists.{leftOn}
+use Rattle.decimal.specs.Decimal.{columns, columnsTo, sameBytes}
+use Rattle.drill_lines.specs.Printed.{numberText}
+use Rattle.drill_lines.specs.Replies.{isReply, replyOf}
+use Rattle.drill_lines.specs.Steps.{stepOf}
+use Rattle.drill_lines.specs.declared.Reply.{Reply}
+use Rattle.drill_lines.specs.declared.Reply.the-variants.{Given, Misformed}
+use Rattle.drill_lines.specs.declared.Step.{Step}
+use Rattle.drill_lines.specs.declared.Step.the-variants.{TakeOrder, ReadReply}
+use Rattle.drill_run.specs.Drilled.{heardOf, heardLeaves, HeardAs, Drilled, begun, ordered, heard, Played, DrilledFromStart}
+use Rattle.drill_run.specs.declared.Heard.{Heard}
+use Rattle.drill_run.specs.declared.Heard.the-variants.{Answer, Nothing}
+
+-- ---- a reply handed on
+
+no-text : replyOf [] ≡ Misformed
+unfolding replyOf isReply numberText columns columnsTo sameBytes
+no-text = refl
+
+-- the input has ended
+pub ended : (s st : List ℕ) → HeardAs s st Nothing st
+unfolding heardOf heardLeaves
+ended s st = ([], rw no-text, rw no-text)
+
+module _ (s st line : List ℕ) (y : Reply) (e : y ≡ replyOf line) where
+  pub no-reply : y ≡ Misformed → (Nothing ≡ heardOf s st (replyOf line)) × (st ≡ heardLeaves s st (replyOf line))
+  unfolding heardOf heardLeaves
+  no-reply k = let z : replyOf line ≡ Misformed = sym e ∙ k in (rw z, rw z)
+
+  pub handed-on : (letter booking a : ℕ) (st′ : List ℕ) → y ≡ Given letter booking → a ≡ askedCall s st (replied letter booking)
+      → st′ ≡ askedLeaves s st (replied letter booking) → (Answer a ≡ heardOf s st (replyOf line)) × (st′ ≡ heardLeaves s st (replyOf line))
+  unfolding heardOf heardLeaves
+  handed-on letter booking a st′ k f g = let z : replyOf line ≡ Given letter booking = sym e ∙ k in (rw (z, f), rw z g)
+
+-- ---- one turn
+
+module _ (s : List ℕ) (b₀ : ℕ) (st₀ : List ℕ) (b : ℕ) (st st′ : List ℕ) (d : Drilled s b₀ st₀ b st) where
+  module _ (t : Step) (e : t ≡ stepOf b) where
+    pub order-taken : (a : ℕ) → t ≡ TakeOrder → a ≡ askedCall s st nextOrder → st′ ≡ askedLeaves s st nextOrder → Drilled s b₀ st₀ a st′
+    order-taken a k f g = ordered d (sym e ∙ k) (record { answered = f; leaves = g })
+
+    pub reply-heard : (h : Heard) (a : ℕ) → t ≡ ReadReply → HeardAs s st h st′ → h ≡ Answer a → Drilled s b₀ st₀ a st′
+    unfolding heardOf heardLeaves
+    reply-heard h a k (line, f, g) n = go (replyOf line) (sym n ∙ f) g
+      where
+        go : (y : Reply) → Answer a ≡ heardOf s st y → st′ ≡ heardLeaves s st y → Drilled s b₀ st₀ a st′
+        go (Given letter booking) p q =
+            let z : a ≡ askedCall s st (replied letter booking) = cc in
+            heard letter booking d (sym e ∙ k) (record { answered = z; leaves = q })
+        go Misformed p q = let z : _≡_ {A = ℕ} 0 1 = cc in absurd (omega arith)
+
+  -- nothing heard, nothing done
+  pub silence : (h : Heard) → HeardAs s st h st′ → h ≡ Nothing → Played s b₀ st₀ st′
+  unfolding heardOf heardLeaves
+  silence h (line, f, g) n = go (replyOf line) (sym n ∙ f) g
+    where
+      go : (y : Reply) → Nothing ≡ heardOf s st y → st′ ≡ heardLeaves s st y → Played s b₀ st₀ st′
+      go (Given letter booking) p q = let z : _≡_ {A = ℕ} 0 1 = cc in absurd (omega arith)
+      go Misformed p q = (b, rw q d)
+
+pub played : (s : List ℕ) (b₀ : ℕ) (st₀ : List ℕ) (b : ℕ) (st : List ℕ) → Drilled s b₀ st₀ b st → Played s b₀ st₀ st
+played s b₀ st₀ b st d = (b, d)
+
+-- begun by start
+pub from-start : (s lent : List ℕ) (b₀ : ℕ) (st₀ st : List ℕ) → b₀ ≡ startCall s lent → st₀ ≡ startLeaves s lent → Played s b₀ st₀ st
+    → DrilledFromStart s lent st
+from-start s lent b₀ st₀ st e f d = rw (← e, ← f) d
+
+-- ---- a list of calls
+
+left-last : (s st : List ℕ) (qs : List Asked) (q : Asked) → leftOn s st (qs ++ (q ∷ [])) ≡ askedLeaves s (leftOn s st qs) q
+unfolding leftOn
+left-last s st [] q = refl
+left-last s st (p ∷ qs) q = left-last s (askedLeaves s st p) qs q
+
+one-more : (s st₀ st st′ : List ℕ) (q : Asked) → (qs : List Asked) × (st ≡ leftOn s st₀ qs) → st′ ≡ askedLeaves s st q
+    → (qs : List Asked) × (st′ ≡ leftOn s st₀ qs)
+one-more s st₀ st st′ q (qs, e) f = (qs ++ (q ∷ []), f ∙ rw e (sym (left-last s st₀ qs q)))
+
+-- the drill's state is what a list of calls leaves of the one that it began with
+pub drilled-calls : (s : List ℕ) (b₀ : ℕ) (st₀ : List ℕ) (b : ℕ) (st : List ℕ) → Drilled s b₀ st₀ b st → (qs : List Asked) × (st ≡ leftOn s st₀ qs)
+unfolding leftOn
+drilled-calls s b₀ st₀ b st begun = ([], refl)
+drilled-calls s b₀ st₀ b st (ordered d k c) = one-more s st₀ _ _ _ (drilled-calls s b₀ st₀ _ _ d) (c .leaves)
+drilled-calls s b₀ st₀ b st (heard letter booking d k c) = one-more s st₀ _ _ _ (drilled-calls s b₀ st₀ _ _ d) (c .leaves)

@@ -1,0 +1,112 @@
+// The drill: the sheet from plan.txt, replies from standard input, and each answer of the calls printed.
+use drill_lines::Reply;
+use drill_lines::Step;
+use libc::STDIN_FILENO;
+use libc::STDOUT_FILENO;
+ghost use mathlib.Core.Path.{_≡_};
+ghost use Rattle.drill_lines.specs.Replies.{replyOf};
+ghost use Rattle.drill_run.specs.Drilled.{heardOf, heardLeaves, HeardAs, Played, DrilledFromStart};
+ghost use Rattle.io.specs.Counts.{Counts};
+
+// The answer of the call that a reply led to, or nothing: the input has ended, or what stands there is no reply.
+enum Heard {
+    Answer(u32),
+    Nothing,
+}
+
+// Reads plan.txt and gives its length. One byte more than the longest sheet is enough to refuse a longer file. A file that is missing
+// or cannot be read counts as empty.
+fn read_sheet(sheet: &mut [u8]) -> usize
+    ensures { λ r. ⌜ Counts r (now (sheet .exit)) ⌝ }
+{
+    let fd = os::open_read(b"plan.txt");
+    if fd < 0 {
+        return 0;
+    }
+    let n = io::read_full(fd, sheet);
+    libc::close(fd);
+    n
+}
+
+// Prints the line of an answer, if it has one.
+fn print_answer(bits: u32) {
+    let mut line = [0u8; 12];
+    let n = drill_lines::write_answer(&mut line, bits);
+    io::write_all(STDOUT_FILENO, &line[..n]);
+}
+
+// Prints that reply `number` is not of its form.
+fn print_misformed(number: usize) {
+    let mut line = [0u8; 12];
+    let n = drill_lines::write_refusal(&mut line, 1, number);
+    io::write_all(STDOUT_FILENO, &line[..n]);
+}
+
+// Hands on a line that stands as reply `number`, or prints that it is none.
+fn hand_on(sheet: &[u8], state: &mut [u8], line: &[u8], number: usize) -> Heard
+    ensures answer { λ r. ⌜ r ≡ heardOf (now (sheet .entry)) (now (state .entry)) (replyOf (now (line .entry))) ⌝ }
+    ensures left { λ _. ⌜ now (state .exit) ≡ heardLeaves (now (sheet .entry)) (now (state .entry)) (replyOf (now (line .entry))) ⌝ }
+{
+    let Reply::Given(letter, booking) = drill_lines::read_reply(line) else {
+        print_misformed(number);
+        return Heard::Nothing;
+    };
+    Heard::Answer(campaign::campaign_reply(sheet, state, letter, booking))
+}
+
+// Reads reply `number`, if the input has not ended, and hands it on.
+fn hear(sheet: &[u8], state: &mut [u8], number: usize) -> Heard
+    ensures { λ r. ⌜ HeardAs (now (sheet .entry)) (now (state .entry)) r (now (state .exit)) ⌝ }
+{
+    let mut line = [0u8; 6];
+    let n = io::read_full(STDIN_FILENO, &mut line);
+    if n == 0 {
+        return Heard::Nothing;
+    }
+    hand_on(sheet, state, &line[..n], number)
+}
+
+// Goes on from the answer of start, call after call. A proved loop has to end, and nothing says that the input does: so the turns are
+// counted down from a number that no run uses up.
+fn play(sheet: &[u8], state: &mut [u8], started: u32)
+    ensures { λ _. ⌜ Played (now (sheet .entry)) started (now (state .entry)) (now (state .exit)) ⌝ }
+{
+    let mut bits = started;
+    let mut replies = 0;
+    let mut turns = usize::MAX;
+    while turns > 0 {
+        turns -= 1;
+        print_answer(bits);
+        match drill_lines::after_answer(bits) {
+            Step::TakeOrder => {
+                bits = campaign::campaign_next_order(sheet, state);
+            }
+            Step::ReadReply => {
+                replies += 1;
+                let Heard::Answer(answer) = hear(sheet, state, replies) else {
+                    return;
+                };
+                bits = answer;
+            }
+            Step::Stop => {
+                return;
+            }
+        }
+    }
+}
+
+// Begins a campaign and plays it.
+fn drill(sheet: &[u8], state: &mut [u8])
+    ensures { λ _. ⌜ DrilledFromStart (now (sheet .entry)) (now (state .entry)) (now (state .exit)) ⌝ }
+{
+    let started = campaign::campaign_start(sheet, state);
+    play(sheet, state, started);
+}
+
+// The whole drill: the sheet from its file, the state as it comes.
+pub fn run() {
+    let mut sheet = [0u8; 9839];
+    let mut state = [0u8; 65];
+    let n = read_sheet(&mut sheet);
+    drill(&sheet[..n], &mut state);
+}

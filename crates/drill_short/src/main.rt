@@ -1,0 +1,4 @@
+// The drill with input that ends within its second reply.
+fn main() {
+    drill_run::run();
+}
