@@ -221,8 +221,9 @@ uint32_t campaign_next_order(const uint8_t *sheet, size_t sheet_len,
  * Accepted with the booking as place, and the state says what became of it.
  * If that leaves the current way without a booking it needs and no request is
  * open any more, the first way that can still be flown becomes current, or
- * calling off begins. Refused with 1 to 8, 11 or 9; a reply that comes twice
- * is refused with 9 and does no harm.
+ * calling off begins. Refused with 1 to 8, 11 or 9. Hand each reply in once:
+ * a copy is refused with 9 as long as the booking has no open order, but if the
+ * same booking has been ordered again meanwhile, the copy answers that order.
  */
 uint32_t campaign_reply(const uint8_t *sheet, size_t sheet_len,
                         uint8_t *state, size_t state_len,

@@ -10,6 +10,10 @@ use Rattle.bounded.proofs.Bools.{and-l, and-r}
 use Rattle.plan.specs.Judging.{isFine}
 use Rattle.sheet.specs.Sheet.{waysPlace, sheetOf}
 use Rattle.sheet.proofs.Accepted.{sheet-valid, sheet-counts}
+use Rattle.verdict.specs.FromPlan.{networkOf}
+use Rattle.verdict.specs.Network.{wayOf}
+use Rattle.ways.specs.Ways.{countsListed}
+use Rattle.ways.specs.WayText.{sizeAt}
 use Rattle.verdict.specs.Check.{check, verdictNumber}
 use Rattle.run.specs.State.{start}
 use Rattle.run.specs.Bytes.{bytesOf}
