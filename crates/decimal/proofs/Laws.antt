@@ -11,9 +11,9 @@ use native.Mathlib.Numerals.{add-one}
 use native.Mathlib.Omega.{arith}
 use lib.ListN.{length, getD, take, set, length-append, List·getD-append}
 use lib.Seq.{sets, take-suc, take-take, take-all, take-at, getD-take, getD-at}
-use lib.Dec.{eqb}
-use borrow.Author.Tests.{eqb-true, eq-eqb, ne-eqb}
-use Rattle.bounded.proofs.Bools.{and-no-r, and-true, last?}
+use lib.Dec.{eqb, leb}
+use borrow.Author.Tests.{eqb-true, eq-eqb, ne-eqb, le-leb, lt-leb}
+use Rattle.bounded.proofs.Bools.{clash, not-t, not-f, and-no-r, and-true, last?, split?}
 use Rattle.decimal.specs.Decimal.{column, columnsTo, columns, valueOf, sameBytes, fieldOf}
 use Rattle.decimal.specs.declared.Field.the-variants.{Number, Fault}
 use Rattle.decimal.proofs.Bytes.{same-refl, same-eq, same-ne}
@@ -37,6 +37,21 @@ before-column : (last : Bool) (b v : ℕ) → b ≡ column last (v * 10 + b % 16
 before-column last b v e =
     let m : b % 16 ≡ (v * 10 + b % 16) % 10 = ap (λ (x : ℕ). x % 16) e ∙ column-mod last (v * 10 + b % 16) in
     omega arith
+
+-- once the number has begun, the byte of a column is its digit's
+module _ (last : Bool) (b x : ℕ) (begun : x ≡ 0 → ⊥) where
+  column-begun : column last x ≡ 48 + x % 10
+  unfolding column
+  column-begun = rw (ne-eqb x 0 begun)
+
+  pub below-digits : b < 48 → false ≡ eqb b (column last x)
+  below-digits h = sym (rw column-begun (ne-eqb b (48 + x % 10) (λ e. omega arith)))
+
+  pub digit-read : 48 ≤ b → x % 10 ≡ b % 16 % 10 → leb b 57 ≡ eqb b (column last x)
+  digit-read h d = rw column-begun (elim (split? 57 b) [
+    | inl m ↦ lt-leb b 57 m ∙ sym (ne-eqb b (48 + x % 10) (λ e. omega arith))
+    | inr m ↦ le-leb b 57 m ∙ sym (eq-eqb b (48 + x % 10) (omega arith))
+  ])
 
 -- ---- the columns of a number
 
@@ -142,30 +157,31 @@ pub fault-length : (w : ℕ) (s : List ℕ) → (length s ≡ w → ⊥) → Fau
 unfolding fieldOf
 fault-length w s h = sym (rw (same-ne s (columns w (valueOf w s)) (λ e. h (ap length e ∙ columns-length w (valueOf w s)))))
 
--- what the loop has in hand of column i: x is the value before it, d its digit, c the byte that is to stand there
-module _ (w : ℕ) (s : List ℕ) (i x d c : ℕ) (n : length s ≡ w) (h : i < w) (v : x ≡ valueOf i s) (g : d ≡ getD s i 0 % 16)
-    (k : c ≡ column (eqb (i + 1) w) (x * 10 + d)) where
+-- what the loop has in hand of column i: x is the value before it, d its digit, r whether the byte stands there rightly
+module _ (w : ℕ) (s : List ℕ) (i x d : ℕ) (r : Bool) (n : length s ≡ w) (h : i < w) (v : x ≡ valueOf i s) (g : d ≡ getD s i 0 % 16)
+    (k : r ≡ eqb (getD s i 0) (column (eqb (i + 1) w) (x * 10 + d))) where
   pub value-turn : x * 10 + d ≡ valueOf (i + 1) s
   unfolding valueOf
   value-turn = rw (add-one, v, g)
 
   -- a byte that is not its column makes the field a fault
-  pub fault-at : (getD s i 0 ≡ c → ⊥) → Fault ≡ fieldOf w s
+  pub fault-at : not r ≡ true → Fault ≡ fieldOf w s
   unfolding fieldOf columns
   fault-at other =
       sym (rw (same-ne s (columns w (valueOf w s)) (λ e.
-      other (each-column true w s (omega arith) (take-all w s (omega arith) ∙ e) i h ∙ rw (k, value-turn, add-one)))))
+      clash r (k ∙ eq-eqb _ _ (each-column true w s (omega arith) (take-all w s (omega arith) ∙ e) i h ∙ rw (value-turn, add-one))) (not-t r other))))
 
   -- one byte more is its column
-  pub column-read : take i s ≡ columnsTo (eqb i w) i x → getD s i 0 ≡ c → take (i + 1) s ≡ columnsTo (eqb (i + 1) w) (i + 1) (x * 10 + d)
+  pub column-read : take i s ≡ columnsTo (eqb i w) i x → not r ≡ false → take (i + 1) s ≡ columnsTo (eqb (i + 1) w) (i + 1) (x * 10 + d)
   unfolding columnsTo
-  column-read t b =
+  column-read t p =
+      let b : getD s i 0 ≡ column (eqb (i + 1) w) (x * 10 + d) = eqb-true _ _ (sym k ∙ not-f r p) in
       let o : eqb i w ≡ false = ne-eqb i w (λ z. omega arith) in
-      let e : getD s i 0 ≡ column (eqb (i + 1) w) (x * 10 + getD s i 0 % 16) = b ∙ k ∙ rw g in
+      let e : getD s i 0 ≡ column (eqb (i + 1) w) (x * 10 + getD s i 0 % 16) = b ∙ rw g in
       let q : (x * 10 + d) / 10 ≡ x = rw g (before-column (eqb (i + 1) w) (getD s i 0) x e) in
       let f : take i s ≡ columnsTo false i ((x * 10 + d) / 10) = t ∙ rw (o, q) in
       let a : take (suc i) s ≡ take i s ++ (getD s i 0 ∷ []) = take-suc s i 0 (omega arith) in
-      let z : take (suc i) s ≡ columnsTo (eqb (i + 1) w) (suc i) (x * 10 + d) = a ∙ rw (f, b, k) in
+      let z : take (suc i) s ≡ columnsTo (eqb (i + 1) w) (suc i) (x * 10 + d) = a ∙ rw (f, b) in
       ap (λ (j : ℕ). take j s) (add-one i) ∙ z ∙ ap (λ (j : ℕ). columnsTo (eqb (i + 1) w) j (x * 10 + d)) (sym (add-one i))
 
 pub number-read : (w : ℕ) (s : List ℕ) (i x : ℕ) → length s ≡ w → i ≤ w → w ≤ i → x ≡ valueOf i s → take i s ≡ columnsTo (eqb i w) i x → Number x ≡ fieldOf w s

@@ -3,6 +3,7 @@
 ghost use mathlib.Core.Path.{_≡_};
 ghost use mathlib.Core.List.{[], _∷_};
 ghost use Prim.Native.Nat.{_+_, _%_, _≤_, _<_};
+ghost use lib.Dec.{eqb};
 ghost use lib.ListN.{length, take, drop};
 ghost use lib.Seq.{sets};
 ghost use Rattle.decimal.specs.Decimal.{column, columns, sameBytes, fieldOf, fieldAt};
@@ -65,6 +66,20 @@ fn shown(q: usize, last: bool) -> u8
     b' '
 }
 
+// Whether b stands rightly in the column with which the number x ends: a digit, once the number has begun.
+fn is_shown(b: u8, x: usize, last: bool) -> bool
+    requires { ⌜ x % 10 ≡ b % 16 % 10 ⌝ }
+    ensures { λ r. ⌜ r ≡ eqb b (column last x) ⌝ }
+{
+    if x == 0 {
+        return b == shown(x, last);
+    }
+    if b < b'0' {
+        return false;
+    }
+    b <= b'9'
+}
+
 // Reads a field of w columns: each byte must be the column of the number that ends with it.
 pub fn read_field(s: &[u8], w: usize) -> Field
     requires { ⌜ w ≤ 12 ⌝ }
@@ -78,7 +93,7 @@ pub fn read_field(s: &[u8], w: usize) -> Field
     while i < w {
         let b = s[i];
         x = x * 10 + digit(b);
-        if b != shown(x, i + 1 == w) {
+        if !is_shown(b, x, i + 1 == w) {
             return Field::Fault;
         }
         i += 1;
@@ -107,15 +122,6 @@ pub fn write_field(buf: &mut [u8], at: usize, w: usize, x: usize)
         buf[at + i] = c;
         q = q / 10;
     }
-}
-
-// The four columns of x.
-pub fn four(x: usize) -> [u8; 4]
-    ensures { λ r. ⌜ r ≡ columns 4 x ⌝ }
-{
-    let mut c = [b' '; 4];
-    write_field(&mut c, 0, 4, x);
-    c
 }
 
 // Copies src into buf from at on.

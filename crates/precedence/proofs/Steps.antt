@@ -9,7 +9,7 @@ use native.Mathlib.Numerals.{add-one}
 use lib.Bits.{bitOr, or-zero-r}
 use lib.ListN.{length, getD}
 use Rattle.bounded.proofs.Bools.{which, or-l, or-r, or-cases, or-false, and-i, and-l, and-r}
-use Rattle.bounded.proofs.Lists.{table-at, table-is}
+use Rattle.bounded.proofs.Lists.{table-length, table-at, table-is}
 use Rattle.sets.specs.Sets.{member}
 use Rattle.sets.proofs.Members.{member-or}
 use Rattle.precedence.specs.Precedence.{before, joinedOf, throughAt, throughOf, closureTo}
@@ -37,7 +37,7 @@ joined-none : (s via k : ℕ) → via ≡ 0 → s ≡ joinedOf s via k
 joined-none s via k z =
     ⊎-elim (λ (e : member s k ≡ true). sym (sym (joined-yes s via k e) ∙ rw z (or-zero-r s))) (λ (e : member s k ≡ false). joined-no s via k e) (which (member s k))
 
-pub through-none : (p : List ℕ) (k : ℕ) → length p ≡ 64 → getD p k 0 ≡ 0 → p ≡ throughOf p k
+through-none : (p : List ℕ) (k : ℕ) → length p ≡ 64 → getD p k 0 ≡ 0 → p ≡ throughOf p k
 unfolding throughOf throughAt
 through-none p k l z = table-is (throughAt p k) 64 p l (λ v h. joined-none (getD p v 0) (getD p k 0) k z)
 
@@ -45,6 +45,14 @@ through-none p k l z = table-is (throughAt p k) 64 p l (λ v h. joined-none (get
 pub closure-step : (d p : List ℕ) (k : ℕ) → p ≡ closureTo d k → throughOf p k ≡ closureTo d (k + 1)
 unfolding closureTo
 closure-step d p k e = rw (add-one, e)
+
+-- a turn without a step, where nothing comes before k
+pub closure-skip : (d p : List ℕ) (k : ℕ) → length p ≡ 64 → getD p k 0 ≡ 0 → p ≡ closureTo d k → p ≡ closureTo d (k + 1)
+closure-skip d p k l z e = through-none p k l z ∙ closure-step d p k e
+
+pub through-length : (p : List ℕ) (k : ℕ) → length (throughOf p k) ≡ 64
+unfolding throughOf
+through-length p k = table-length (throughAt p k) 64
 
 -- what a step has: u before v already, or both ends of a chain through k
 abbrev pub Step : List ℕ → ℕ → ℕ → ℕ → Type 0

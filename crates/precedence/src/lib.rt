@@ -24,25 +24,17 @@ pub fn through(p: [u64; 64], k: usize) -> [u64; 64]
     r
 }
 
-// The same, with nothing to do where nothing comes before k.
-fn stepped(p: [u64; 64], k: usize) -> [u64; 64]
-    requires { ⌜ k < 64 ⌝ }
-    ensures { λ r. ⌜ r ≡ throughOf p k ⌝ }
-{
-    if p[k] == 0 {
-        return p;
-    }
-    through(p, k)
-}
-
 // All that precede each booking, from what comes directly before it.
 pub fn closure(d: [u64; 64]) -> [u64; 64]
     ensures { λ r. ⌜ r ≡ closureOf d ⌝ }
 {
     let mut p = d;
     for k in 0..64 {
-        let q = stepped(p, k);
-        p = q;
+        // a step through k changes nothing where nothing comes before k
+        if p[k] != 0 {
+            let q = through(p, k);
+            p = q;
+        }
     }
     p
 }

@@ -166,12 +166,13 @@ impl Run {
         requires { ⌜ g .n ≤ 64 ⌝ }
         ensures { λ s. ⌜ s ≡ gather (ready g self) (g .n) ⌝ }
     {
+        let bits = sets::bits();
         let held = self.coded(g.n, 2);
         let before = g.before;
         let mut s: u64 = 0;
         for b in 0..g.n {
             if sets::subset(before[b], held) {
-                s = s | sets::bit(b);
+                s = s | bits[b];
             }
         }
         s

@@ -3,21 +3,24 @@
 use mathlib.Core.Path.{_≡_, refl, sym, ap, _∙_}
 use mathlib.Core.Logic.{⊎-elim}
 use mathlib.Core.Bool.{Bool, true, false, not, _&&_, _||_}
-use Prim.Native.Nat.{ℕ, zero, suc, _/_, _%_, _^_, _<_, suc-le-suc}
+use mathlib.Core.List.{List}
+use Prim.Native.Nat.{ℕ, zero, suc, _+_, _/_, _%_, _^_, _<_, suc-le-suc}
 use native.Mathlib.Nat.{mod-lt, lt-of-le-of-lt, not-suc-le-zero, le-of-suc-le-suc}
 use native.Mathlib.Omega.{arith}
 use borrow.Author.Tests.{eqb-true, eq-eqb, ne-eqb}
 use lib.Dec.{eqb}
+use lib.ListN.{getD}
 use lib.Pow.{pow-lt}
 use lib.Bits.{bitAnd, bitOr, bitXor, and-le-l, or-lt, xor-lt}
 use lib.Count.{trailingZeros, under}
-use Rattle.bounded.specs.Bounded.{imp, any, all, first}
+use Rattle.bounded.specs.Bounded.{imp, any, all, first, table}
 use Rattle.bounded.proofs.Bools.{which, clash, same-test, not-t}
 use Rattle.bounded.proofs.Tests.{all-i, all-e, any-n, any-e}
 use Rattle.bounded.proofs.First.{Least, first-is}
-use Rattle.sets.specs.Sets.{member, inserted, insert, only, without, kept, subsetOf, apart, disjointFrom}
+use Rattle.sets.specs.Sets.{alone, member, gather, inserted, insert, only, without, kept, subsetOf, apart, disjointFrom}
 use Rattle.sets.proofs.Members.{two-pos, binary, unlike, member-and, member-or, member-xor, member-zero, member-power, member-suc, low-digit, same-set}
-use Rattle.sets.proofs.Gather.{gather-is, member-gather}
+use Rattle.sets.proofs.Gather.{gather-is, gather-lt, gather-put, member-gather}
+use Rattle.sets.proofs.Table.{alone-at}
 
 -- `s | 2 ^ i` puts i in
 pub put-bit : (s i : ℕ) → i < 64 → s < 2 ^ 64 → bitOr s (2 ^ i) ≡ insert s i
@@ -25,6 +28,17 @@ unfolding insert inserted
 put-bit s i h hs =
     gather-is (inserted s i) 64 (bitOr s (2 ^ i)) (or-lt 64 s (2 ^ i) hs (pow-lt h))
     (λ j l. member-or s (2 ^ i) j ∙ ap (λ (b : Bool). member s j || b) (member-power i j))
+
+-- the same with the bit from a loop's own copy of the table, and one more turn of a loop that gathers so
+pub put-alone : (t : List ℕ) → t ≡ table alone 64 → (s i : ℕ) → i < 64 → s < 2 ^ 64 → bitOr s (getD t i 0) ≡ insert s i
+put-alone t e s i h hs = ap (λ (x : ℕ). bitOr s x) (ap (λ (l : List ℕ). getD l i 0) e ∙ alone-at i h) ∙ put-bit s i h hs
+
+pub gather-alone : (t : List ℕ) → t ≡ table alone 64 → (f : ℕ → Bool) (n : ℕ) → n < 64 → f n ≡ true → bitOr (gather f n) (getD t n 0) ≡ gather f (n + 1)
+gather-alone t e f n h p = ap (λ (x : ℕ). bitOr (gather f n) x) (ap (λ (l : List ℕ). getD l n 0) e ∙ alone-at n h) ∙ gather-put f n p
+
+pub insert-lt : (s i : ℕ) → insert s i < 2 ^ 64
+unfolding insert
+insert-lt s i = gather-lt (inserted s i) 64
 
 pub member-insert : (s i j : ℕ) → j < 64 → member (insert s i) j ≡ member s j || eqb j i
 unfolding insert inserted

@@ -6,6 +6,10 @@ use Prim.Native.Nat.{ℕ, zero, suc, _+_, _*_, _/_, _%_, _^_}
 use lib.Dec.{eqb}
 use Rattle.bounded.specs.Bounded.{imp, one, all, count}
 
+-- the set of i alone
+abbrev pub alone : ℕ → ℕ
+alone i = 2 ^ i
+
 -- i is in the set s
 unfoldable pub member : ℕ → ℕ → Bool
 member s i = eqb (s / 2 ^ i % 2) 1

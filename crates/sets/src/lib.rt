@@ -1,9 +1,9 @@
 // A set of bookings as the 64 bits of a u64: booking number b is bit b - 1, so its index is its bit.
-// Only `bit` names the table of bits; every other function, here and above, goes through it.
+// Only `bit` and `bits` name the table of bits; every other function, here and above, goes through them.
 ghost use mathlib.Core.Path.{_≡_};
-ghost use Prim.Native.Nat.{_≤_, _<_, _^_};
-ghost use Rattle.bounded.specs.Bounded.{first};
-ghost use Rattle.sets.specs.Sets.{member, allBelow, insert, without, subsetOf, disjointFrom, sizeOf};
+ghost use Prim.Native.Nat.{_≤_, _<_};
+ghost use Rattle.bounded.specs.Bounded.{first, table};
+ghost use Rattle.sets.specs.Sets.{alone, member, allBelow, insert, without, subsetOf, disjointFrom, sizeOf};
 
 const BIT: [u64; 64] = [
     1,
@@ -75,9 +75,16 @@ const BIT: [u64; 64] = [
 // The set of index i alone.
 pub fn bit(i: usize) -> u64
     requires { ⌜ i < 64 ⌝ }
-    ensures { λ r. ⌜ r ≡ 2 ^ i ⌝ }
+    ensures { λ r. ⌜ r ≡ alone i ⌝ }
 {
     BIT[i]
+}
+
+// All of these sets, for a loop that needs many: a look into the table builds it anew, so the loop keeps it.
+pub fn bits() -> [u64; 64]
+    ensures { λ r. ⌜ r ≡ table alone 64 ⌝ }
+{
+    BIT
 }
 
 // The set of all indices below n.

@@ -1,30 +1,30 @@
 -- Each sentence of soundness as work on whole sets.
 -- Assumes nothing.
 use mathlib.Core.Path.{_≡_, refl, sym, ap, ap₂, _∙_}
-use mathlib.Core.Logic.{_≢_, inl, inr}
+use mathlib.Core.Logic.{_≢_}
 use mathlib.Core.Bool.{Bool, true, false, not, _&&_, _||_, cond}
 use mathlib.Core.List.{List}
 use Prim.Native.Nat.{ℕ, zero, suc, _-_, _≤_, _<_}
 use native.Mathlib.Omega.{arith}
-use borrow.Author.Tests.{leb-true, lt-ltb, le-ltb, le-leb, lt-leb, eq-eqb, ne-eqb}
-use lib.Dec.{eqb, ltb, leb}
+use borrow.Author.Tests.{leb-true, le-leb, lt-leb, eq-eqb, ne-eqb}
+use lib.Dec.{eqb, leb}
 use lib.Bits.{bitAnd, bitOr}
 use lib.ListN.{getD}
 use Rattle.bounded.specs.Bounded.{imp, any, all}
-use Rattle.bounded.proofs.Bools.{split?, off, clash, and-true, and-no-r, and-l, and-r, _&_, or-l, or-go, not-i, not-t, not-f}
+use Rattle.bounded.proofs.Bools.{off, clash, and-true, and-no-r, and-l, and-r, _&_, or-l, or-go, not-i, not-t, not-f}
 use Rattle.bounded.proofs.Tests.{all-i, all-e, all-ext}
 use Rattle.bounded.proofs.Loops.{So-far}
-use Rattle.sets.specs.Sets.{member, gather, only, without, subsetOf, allBelow}
+use Rattle.sets.specs.Sets.{member, gather, without, subsetOf}
 use Rattle.sets.proofs.Members.{member-zero}
 use Rattle.sets.proofs.Gather.{member-gather}
 use Rattle.sets.proofs.Operations.{member-without}
-use Rattle.sets.proofs.Whole.{gather-ext, gather-and, gather-or, gather-without, member-below, any-gather, all-subset}
+use Rattle.sets.proofs.Whole.{gather-and, gather-or, gather-without, any-gather, all-subset}
 use Rattle.verdict.specs.declared.Network.{Network}
 use Rattle.verdict.specs.Network.{wayOf, inWay, firm, exposed, returnable, some}
 use Rattle.run.specs.declared.Run.{Run}
 use Rattle.run.specs.State.{is, coded, requested, lost, heldFirmAt, heldFirm, liveAt}
 use Rattle.run.specs.Orders.{ready}
-use Rattle.run.specs.Sound.{codesKnown, wayKnown, zeroPast, restZero, founded, allFounded, lostExposed, requestedInside, mayReturn, returningOutside, leaving, quiet, waysBefore, passedOver, earlierDead, firmInside, pending, lostPending, sound}
+use Rattle.run.specs.Sound.{codesKnown, wayKnown, restZero, founded, allFounded, lostExposed, requestedInside, mayReturn, returningOutside, leaving, quiet, waysBefore, passedOver, earlierDead, firmInside, pending, lostPending, sound}
 use Rattle.run.proofs.Codes.{liveIn, live-in}
 
 -- a test of every number that passes p is a test of the gathered set
@@ -40,21 +40,17 @@ knownIn codes b = leb (getD codes b 0) 4
 
 -- ---- bytes past n
 
-past-test : (n i : ℕ) → not (ltb i n) ≡ leb n i
-past-test n i = elim (split? i n) [ inl h ↦ rw (lt-ltb i n h, lt-leb n i h) | inr h ↦ rw (le-ltb i n h, le-leb n i h) ]
+-- a byte of the array is zero if it stands past n
+unfoldable pub pastIn : List ℕ → ℕ → ℕ → Bool
+pastIn codes n b = imp (leb n b) (eqb (getD codes b 0) 0)
 
-past-set : (n : ℕ) → without (allBelow 64) (allBelow n) ≡ gather (λ i. leb n i) 64
-unfolding without only
-past-set n =
-    gather-ext (only (allBelow 64) (allBelow n)) (λ i. leb n i) 64
-    (λ i l. rw (member-below 64 i, member-below n i, lt-ltb i 64 l) (past-test n i))
+pub past-before : (codes : List ℕ) (n b : ℕ) → b < n → pastIn codes n b ≡ true
+unfolding pastIn
+past-before codes n b h = rw (lt-leb n b h)
 
-module _ (g : Network) (r : Run) where
-  pub rest-is : (a b s t : ℕ) → a ≡ allBelow 64 → b ≡ allBelow (g .n) → s ≡ without a b → t ≡ gather (is r 0) 64 → subsetOf s t ≡ restZero g r
-  unfolding restZero zeroPast
-  rest-is a b s t ea eb es et =
-      subset-all (λ i. leb (g .n) i) (is r 0) 64 s t (omega arith) (es ∙ ap₂ without ea eb ∙ past-set (g .n))
-      (λ i l. ap (λ (x : ℕ). member x i) et ∙ member-gather (is r 0) 64 i l)
+pub past-at : (codes : List ℕ) (n b : ℕ) → n ≤ b → eqb (getD codes b 0) 0 ≡ pastIn codes n b
+unfolding pastIn
+past-at codes n b h = rw (le-leb n b h)
 
 -- ---- the rest, where n is at most 64
 

@@ -34,8 +34,13 @@ fn rest_zero(g: Network, r: Run) -> bool
     requires { ⌜ g .n ≤ 64 ⌝ }
     ensures { λ t. ⌜ t ≡ restZero g r ⌝ }
 {
-    let past = sets::minus(sets::all_below(64), sets::all_below(g.n));
-    sets::subset(past, r.coded(64, 0))
+    let code = r.code;
+    for b in g.n..64 {
+        if code[b] != 0 {
+            return false;
+        }
+    }
+    true
 }
 
 // What a state must be before its sets are looked at: known codes, a known way, and nothing past n.

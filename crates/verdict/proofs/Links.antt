@@ -4,7 +4,7 @@ use mathlib.Core.Path.{_≡_, sym, ap, ap₂, _∙_}
 use mathlib.Core.Logic.{_≢_, inl, inr}
 use mathlib.Core.Bool.{Bool, false, _&&_, _||_}
 use mathlib.Core.List.{List}
-use Prim.Native.Nat.{ℕ, suc, _+_, _-_, _≤_, _<_}
+use Prim.Native.Nat.{ℕ, suc, _+_, _-_, _^_, _≤_, _<_}
 use native.Mathlib.Omega.{arith}
 use borrow.Author.Tests.{eqb-true, eq-eqb, ne-eqb}
 use lib.Dec.{eqb}
@@ -14,7 +14,7 @@ use Rattle.bounded.specs.Bounded.{any}
 use Rattle.bounded.proofs.Bools.{same?, same-test, and-l, and-i, and-no-r, or-false}
 use Rattle.bounded.proofs.Tests.{any-suc}
 use Rattle.sets.specs.Sets.{gather, inserted, insert}
-use Rattle.sets.proofs.Gather.{member-gather}
+use Rattle.sets.proofs.Gather.{gather-lt, member-gather}
 use Rattle.sets.proofs.Whole.{gather-ext}
 use Rattle.precedence.specs.Precedence.{closureOf}
 use Rattle.plan.specs.declared.Plan.{Plan}
@@ -25,6 +25,10 @@ module _ (us vs : List ℕ) where
   pub direct-none : (v : ℕ) → v < 64 → getD (replicate 64 0) v 0 ≡ directAt us vs 0 v
   unfolding directAt linked any gather
   direct-none v h = getD-replicate 64 v 0 0 h
+
+  pub direct-fits : (i v : ℕ) → directAt us vs i v < 2 ^ 64
+  unfolding directAt
+  direct-fits i v = gather-lt (linked us vs i v) 64
 
   more : (i v u : ℕ) → linked us vs (i + 1) v u ≡ linked us vs i v u || joins us vs v u i
   unfolding linked

@@ -4,8 +4,8 @@ ghost use mathlib.Core.Path.{_≡_};
 ghost use mathlib.Core.Bool.{not, _&&_, _||_};
 ghost use Prim.Native.Nat.{suc, _≤_, _<_};
 ghost use lib.Dec.{eqb};
-ghost use Rattle.bounded.specs.Bounded.{any, first};
-ghost use Rattle.sets.specs.Sets.{member, gather, subsetOf};
+ghost use Rattle.bounded.specs.Bounded.{any, first, table};
+ghost use Rattle.sets.specs.Sets.{alone, member, gather, subsetOf};
 ghost use Rattle.verdict.specs.FromPlan.{ofKind, directOf, networkOf, Ends};
 ghost use Rattle.verdict.specs.Parts.{circularIn, gapIn, unclosedIn, usedBelow, repeatedIn, beyondAt, beyondOf, leadsAll, shelters, sheltersAfter, net};
 ghost use Rattle.verdict.specs.Check.{stranding, strands, check};
@@ -42,29 +42,29 @@ fn is_either(k: u8, x: u8, y: u8) -> bool
 }
 
 // The bookings of one of two kinds.
-fn of_kind(x: u8, y: u8, kind: [u8; 64], n: usize) -> u64
-    requires { ⌜ n ≤ 64 ⌝ }
+fn of_kind(bits: &[u64; 64], x: u8, y: u8, kind: [u8; 64], n: usize) -> u64
+    requires { ⌜ (now bits ≡ table alone 64) × (n ≤ 64) ⌝ }
     ensures { λ r. ⌜ r ≡ gather (ofKind x y kind) n ⌝ }
 {
     let mut s: u64 = 0;
     for b in 0..n {
         if is_either(kind[b], x, y) {
-            s = s | sets::bit(b);
+            s = s | bits[b];
         }
     }
     s
 }
 
 // The direct predecessors of each booking, by the first m links.
-fn direct(from: [u8; 512], to: [u8; 512], m: usize) -> [u64; 64]
-    requires { ⌜ Ends from to m ⌝ }
+fn direct(bits: &[u64; 64], from: [u8; 512], to: [u8; 512], m: usize) -> [u64; 64]
+    requires { ⌜ (now bits ≡ table alone 64) × Ends from to m ⌝ }
     ensures { λ r. ⌜ r ≡ directOf from to m ⌝ }
 {
     let mut d = [0u64; 64];
     for i in 0..m {
         let u = from[i] as usize - 1;
         let v = to[i] as usize - 1;
-        d[v] = sets::with(d[v], u);
+        d[v] = d[v] | bits[u];
     }
     d
 }
@@ -78,10 +78,11 @@ pub fn network_of(p: Plan) -> Network
     let from = p.from;
     let to = p.to;
     let way = p.way;
-    let links = direct(from, to, p.m);
+    let bits = sets::bits();
+    let links = direct(&bits, from, to, p.m);
     let before = precedence::closure(links);
-    let firm = of_kind(b'P', b'R', kind, p.n);
-    let exposed = of_kind(b'C', b'P', kind, p.n);
+    let firm = of_kind(&bits, b'P', b'R', kind, p.n);
+    let exposed = of_kind(&bits, b'C', b'P', kind, p.n);
     Network {
         n: p.n,
         a: p.a,

@@ -33,12 +33,15 @@ mul-x c = omega (arith, roomy (c .before .before) (c .before .loop-test .taken))
 add-x : tie.Need-add-x Inv-loop μ-loop
 add-x c = omega (arith, roomy (c .before .before .before) (c .before .before .loop-test .taken))
 
+is-shown-requires : tie.Need-is-shown-requires Inv-loop μ-loop
+is-shown-requires c κs = omega (arith, c .digit .ensures)
+
 returns-2 : tie.Need-returns-2 Inv-loop μ-loop
 returns-2 c =
     let d = c .before .before in
     let l = d .before .before .before in
     let a = l .before .before .before .args in
-    fault-at (a .w) (now (a .s)) (l .loop .i) _ _ _ (l .before .if1 .left) (d .before .before .loop-test .taken) (l .loop .inv .1) (d .digit .ensures) (c .before .shown .ensures) (c .if2 .taken)
+    fault-at (a .w) (now (a .s)) (l .loop .i) _ _ _ (l .before .if1 .left) (d .before .before .loop-test .taken) (l .loop .inv .1) (d .digit .ensures) (c .before .is-shown .ensures) (c .if2 .taken)
 
 loop-again : tie.Need-loop-again Inv-loop μ-loop
 loop-again c =
@@ -47,8 +50,8 @@ loop-again c =
     let a = l .before .before .before .args in
     let h = d .before .before .loop-test .taken in (
       search needs,
-      value-turn (a .w) (now (a .s)) (l .loop .i) _ _ _ (l .before .if1 .left) h (l .loop .inv .1) (d .digit .ensures) (c .before .shown .ensures),
-      column-read (a .w) (now (a .s)) (l .loop .i) _ _ _ (l .before .if1 .left) h (l .loop .inv .1) (d .digit .ensures) (c .before .shown .ensures)
+      value-turn (a .w) (now (a .s)) (l .loop .i) _ _ _ (l .before .if1 .left) h (l .loop .inv .1) (d .digit .ensures) (c .before .is-shown .ensures),
+      column-read (a .w) (now (a .s)) (l .loop .i) _ _ _ (l .before .if1 .left) h (l .loop .inv .1) (d .digit .ensures) (c .before .is-shown .ensures)
           (l .loop .inv .2) (c .if2 .left),
     )
 
@@ -68,7 +71,7 @@ read-field-spec =
     (search needs)
     add-x
     (search needs)
-    (search needs)
+    is-shown-requires
     returns-2
     (search needs)
     (search needs)

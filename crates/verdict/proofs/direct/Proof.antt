@@ -1,8 +1,11 @@
 -- `verdict::direct` meets its contract.
 -- Assumes nothing.
-use Rattle.verdict.proofs.Links.{direct-none, direct-turn}
+use Rattle.verdict.proofs.Links.{direct-none, direct-fits, direct-turn}
 use Rattle.verdict.specs.FromPlan.{directAt, directOf}
 use Rattle.bounded.proofs.Lists.{table-is}
+use lib.Bits.{bitOr}
+use Rattle.sets.specs.Sets.{insert}
+use Rattle.sets.proofs.Operations.{put-alone}
 use lib.ListN.{length, getD, length-set}
 use Prim.Native.Nat.{ℕ, _≤_, _<_, _-_}
 use mathlib.Core.Path.{_≡_, refl}
@@ -11,22 +14,22 @@ use Rattle.verdict.proofs.direct.Statement.{statement}
 use Rattle.verdict.proofs.direct.Tie as tie
 
 abbrev Inv-loop : tie.InvT-loop
-Inv-loop m from to d₀ i₀ d i = (i ≤ m) × (length d ≡ 64) × ((v : ℕ) → v < 64 → getD d v 0 ≡ directAt from to i v)
+Inv-loop bits m from to d₀ i₀ d i = (i ≤ m) × (length d ≡ 64) × ((v : ℕ) → v < 64 → getD d v 0 ≡ directAt from to i v)
 
 abbrev μ-loop : tie.MeasureT-loop
-μ-loop m from to d₀ i₀ d i = m - i
+μ-loop bits m from to d₀ i₀ d i = m - i
 
-from-ends : (c : tie.In-loop Inv-loop μ-loop) → (1 ≤ getD (c .before .before .args .t1) (c .before .loop .i) 0) × (getD (c .before .before .args .t1) (c .before .loop .i) 0 ≤ 64)
-from-ends c = c .before .before .pre .from (c .before .loop .i) (omega arith)
+from-ends : (c : tie.In-loop Inv-loop μ-loop) → (1 ≤ getD (c .before .before .args .t2) (c .before .loop .i) 0) × (getD (c .before .before .args .t2) (c .before .loop .i) 0 ≤ 64)
+from-ends c = c .before .before .pre .1 .from (c .before .loop .i) (omega arith)
 
-to-ends : (c : tie.In-loop Inv-loop μ-loop) → (1 ≤ getD (c .before .before .args .t2) (c .before .loop .i) 0) × (getD (c .before .before .args .t2) (c .before .loop .i) 0 ≤ 64)
-to-ends c = c .before .before .pre .to (c .before .loop .i) (omega arith)
+to-ends : (c : tie.In-loop Inv-loop μ-loop) → (1 ≤ getD (c .before .before .args .t3) (c .before .loop .i) 0) × (getD (c .before .before .args .t3) (c .before .loop .i) 0 ≤ 64)
+to-ends c = c .before .before .pre .1 .to (c .before .loop .i) (omega arith)
 
 loop-holds : tie.Need-loop-holds Inv-loop μ-loop
 loop-holds c = (omega arith, refl, direct-none _ _)
 
 array-read-u : tie.Need-array-read-u Inv-loop μ-loop
-array-read-u c = omega (arith, c .before .before .pre .few)
+array-read-u c = omega (arith, c .before .before .pre .1 .few)
 
 cast-u : tie.Need-cast-u Inv-loop μ-loop
 cast-u c = omega (arith, from-ends c)
@@ -35,7 +38,7 @@ sub-u : tie.Need-sub-u Inv-loop μ-loop
 sub-u c = omega (arith, from-ends c)
 
 array-read-v : tie.Need-array-read-v Inv-loop μ-loop
-array-read-v c = omega (arith, c .before .before .pre .few)
+array-read-v c = omega (arith, c .before .before .pre .1 .few)
 
 cast-v : tie.Need-cast-v Inv-loop μ-loop
 cast-v c = omega (arith, to-ends c)
@@ -43,26 +46,39 @@ cast-v c = omega (arith, to-ends c)
 sub-v : tie.Need-sub-v Inv-loop μ-loop
 sub-v c = omega (arith, to-ends c)
 
-mul-with : tie.Need-mul-with Inv-loop μ-loop
-mul-with c = omega (arith, to-ends c)
-
-array-read-with : tie.Need-array-read-with Inv-loop μ-loop
-array-read-with c = omega (arith, to-ends c)
-
-with-requires : tie.Need-with-requires Inv-loop μ-loop
-with-requires c κs = omega (arith, from-ends c)
-
 mul-d : tie.Need-mul-d Inv-loop μ-loop
-mul-d c = omega (arith, to-ends (c .before))
+mul-d c = omega (arith, to-ends c)
+
+array-read-d : tie.Need-array-read-d Inv-loop μ-loop
+array-read-d c = omega (arith, to-ends c)
+
+mul-d-2 : tie.Need-mul-d-2 Inv-loop μ-loop
+mul-d-2 c = omega (arith, from-ends c)
+
+element-copy-out-d : tie.Need-element-copy-out-d Inv-loop μ-loop
+element-copy-out-d c = omega (arith, from-ends c)
+
+mul-d-3 : tie.Need-mul-d-3 Inv-loop μ-loop
+mul-d-3 c = omega (arith, to-ends (c .before))
 
 array-write-d : tie.Need-array-write-d Inv-loop μ-loop
 array-write-d c = omega (arith, to-ends (c .before))
+
+-- link i put in, with the bit from the table
+put : (c : tie.In-loop Inv-loop μ-loop) →
+    let a = c .before .before .args in
+    let s = getD (c .before .loop .d) (getD (a .t3) (c .before .loop .i) 0 - 1) 0 in
+    let u = getD (a .t2) (c .before .loop .i) 0 - 1 in
+    bitOr s (getD (a .bits .now) u 0) ≡ insert s u
+put c =
+    put-alone _ (c .before .before .pre .0) _ _ (omega (arith, from-ends c))
+    (rw (c .before .loop .inv .2 (getD (c .before .before .args .t3) (c .before .loop .i) 0 - 1) (omega (arith, to-ends c))) (direct-fits _ _ _ _))
 
 loop-again : tie.Need-loop-again Inv-loop μ-loop
 loop-again c = let l = c .before .before .loop in let a = c .before .before .before in (
   omega arith,
   simp length-set (l .inv .1),
-  direct-turn (a .args .t1) (a .args .t2) (l .d) (l .i) _ (l .inv .1) (a .pre .from (l .i) (omega arith) .0) (a .pre .to (l .i) (omega arith)) (l .inv .2) (c .with .ensures),
+  direct-turn (a .args .t2) (a .args .t3) (l .d) (l .i) _ (l .inv .1) (a .pre .1 .from (l .i) (omega arith) .0) (a .pre .1 .to (l .i) (omega arith)) (l .inv .2) (put (c .before)),
 )
 
 returns : tie.Need-returns Inv-loop μ-loop
@@ -82,10 +98,11 @@ direct-spec =
     array-read-v
     cast-v
     sub-v
-    mul-with
-    array-read-with
-    with-requires
     mul-d
+    array-read-d
+    mul-d-2
+    element-copy-out-d
+    mul-d-3
     array-write-d
     (omega arith)
     (omega arith)

@@ -1,31 +1,32 @@
 -- `verdict::of_kind` meets its contract.
 -- Assumes nothing.
-use mathlib.Core.Path.{_≡_, sym, ap₂, _∙_}
+use mathlib.Core.Path.{_≡_, refl, sym, ap₂, _∙_}
 use mathlib.Core.Logic.{⊎-elim}
 use Prim.Native.Nat.{_≤_, _-_}
 use native.Mathlib.Omega.{arith}
 use lib.Bits.{bitOr}
 use Rattle.sets.specs.Sets.{gather}
-use Rattle.sets.proofs.Gather.{gather-zero, gather-put, gather-skip}
+use Rattle.sets.proofs.Gather.{gather-zero, gather-skip}
+use Rattle.sets.proofs.Operations.{gather-alone}
 use Rattle.verdict.specs.FromPlan.{ofKind}
 use Rattle.verdict.proofs.of_kind.Statement.{statement}
 use Rattle.verdict.proofs.of_kind.Tie as tie
 
 abbrev Inv-loop : tie.InvT-loop
-Inv-loop x y n kind s₀ b₀ s b = (b ≤ n) × (s ≡ gather (ofKind x y kind) b)
+Inv-loop bits x y n kind s₀ b₀ s b = (b ≤ n) × (s ≡ gather (ofKind x y kind) b)
 
 abbrev μ-loop : tie.MeasureT-loop
-μ-loop x y n kind s₀ b₀ s b = n - b
+μ-loop bits x y n kind s₀ b₀ s b = n - b
 
 loop-holds : tie.Need-loop-holds Inv-loop μ-loop
 loop-holds c = (omega arith, sym (gather-zero _))
 
 loop-again : tie.Need-loop-again Inv-loop μ-loop
 unfolding ofKind
-loop-again c = (
+loop-again c = let l = c .before .before .before in (
   omega arith,
-  ⊎-elim (λ w. w .2 ∙ ap₂ bitOr (c .before .before .before .loop .inv .1) (w .1 .ensures) ∙ gather-put _ _ (sym (c .before .is-either .ensures) ∙ w .0 .taken))
-      (λ w. w .1 ∙ c .before .before .before .loop .inv .1 ∙ gather-skip _ _ (sym (c .before .is-either .ensures) ∙ w .0 .left)) (c .if1 .came),
+  ⊎-elim (λ w. w .2 ∙ ap₂ bitOr (l .loop .inv .1) refl ∙ gather-alone _ (l .before .pre .0) _ _ (omega arith) (sym (c .before .is-either .ensures) ∙ w .0 .taken))
+      (λ w. w .1 ∙ l .loop .inv .1 ∙ gather-skip _ _ (sym (c .before .is-either .ensures) ∙ w .0 .left)) (c .if1 .came),
 )
 
 returns : tie.Need-returns Inv-loop μ-loop
@@ -38,6 +39,7 @@ of-kind-spec =
     Inv-loop
     μ-loop
     loop-holds
+    (omega arith)
     (omega arith)
     (omega arith)
     (omega arith)

@@ -2,21 +2,24 @@ use native.Mathlib.Omega.{arith}
 use Rattle.ways.proofs.ReadLaws.{above-last, at-most, gather-fault, gather-out, gather-on, gather-end}
 use borrow.Author.Needs.{needs}
 use native.Mathlib.Nat.{sub-zero, add-zero, mul-zero}
-use lib.ListN.{drop}
-use Prim.Native.Nat.{_+_, _*_, _-_, _≤_}
+use lib.ListN.{getD, drop}
+use Prim.Native.Nat.{_+_, _*_, _-_, _^_, _≤_, _<_}
+use lib.Bits.{bitOr}
+use Rattle.sets.specs.Sets.{insert}
+use Rattle.sets.proofs.Operations.{put-alone, insert-lt}
 use mathlib.Core.Path.{_≡_}
 use Rattle.ways.specs.Way.{gatherOf}
 use Rattle.ways.proofs.gather.Statement.{statement}
 use Rattle.ways.proofs.gather.Tie as tie
 
 abbrev Inv-loop : tie.InvT-loop
-Inv-loop s at k n set₀ last₀ j₀ set last j = (j ≤ k) × (last ≤ n) × (gatherOf n last set (k - j) (drop (at + 4 * j) s) ≡ gatherOf n 0 0 k (drop at s))
+Inv-loop s at k n bits set₀ last₀ j₀ set last j = (j ≤ k) × (last ≤ n) × (set < 2 ^ 64) × (gatherOf n last set (k - j) (drop (at + 4 * j) s) ≡ gatherOf n 0 0 k (drop at s))
 
 abbrev μ-loop : tie.MeasureT-loop
-μ-loop s at k n set₀ last₀ j₀ set last j = k - j
+μ-loop s at k n bits set₀ last₀ j₀ set last j = k - j
 
 loop-holds : tie.Need-loop-holds Inv-loop μ-loop
-loop-holds c = (search needs, search needs, simp (add-zero, sub-zero, mul-zero))
+loop-holds c = (search needs, search needs, omega arith, simp (add-zero, sub-zero, mul-zero))
 
 returns : tie.Need-returns Inv-loop μ-loop
 returns c = search gather-fault
@@ -28,17 +31,27 @@ returns-2 c = search gather-out
 above : (c : tie.Else1 Inv-loop μ-loop) → c .before .before .before .before .before .before .before .loop .last + 1 ≤ c .before .before .before .x .given .0 .0
 above c = above-last _ _ _ _ (c .before .is-within .ensures) (c .if1 .left)
 
-below : (c : tie.Else1 Inv-loop μ-loop) → c .before .before .before .x .given .0 .0 ≤ c .before .before .before .before .before .before .before .before .before .args .n
+below : (c : tie.Else1 Inv-loop μ-loop) → c .before .before .before .x .given .0 .0 ≤ c .before .before .before .before .before .before .before .before .before .before .args .n
 below c = at-most _ _ _ _ (c .before .is-within .ensures) (c .if1 .left)
 
-sub-with : tie.Need-sub-with Inv-loop μ-loop
-sub-with c = omega (arith, above c)
+sub-set : tie.Need-sub-set Inv-loop μ-loop
+sub-set c = omega (arith, above c)
 
-with-requires : tie.Need-with-requires Inv-loop μ-loop
-with-requires c κs = omega (arith, below c)
+mul-set : tie.Need-mul-set Inv-loop μ-loop
+mul-set c = omega (arith, below c)
+
+array-read-set : tie.Need-array-read-set Inv-loop μ-loop
+array-read-set c = omega (arith, below c)
+
+-- the bit is the table's
+put : (c : tie.Else1 Inv-loop μ-loop) →
+    let l = c .before .before .before .before .before .before .before in
+    let i = c .before .before .before .x .given .0 .0 - 1 in
+    bitOr (l .loop .set) (getD (l .before .bits .result) i 0) ≡ insert (l .loop .set) i
+put c = let l = c .before .before .before .before .before .before .before in put-alone _ (l .before .bits .ensures) _ _ (omega (arith, above c, below c)) (l .loop .inv .2)
 
 loop-again : tie.Need-loop-again Inv-loop μ-loop
-loop-again c = (search needs, search at-most, search gather-on)
+loop-again c = (search needs, search at-most, rw (put c) (insert-lt _ _), search (gather-on, put c))
 
 returns-3 : tie.Need-returns-3 Inv-loop μ-loop
 returns-3 c = search gather-end
@@ -49,6 +62,7 @@ gather-spec =
     (tie.spec
     Inv-loop
     μ-loop
+    (search needs)
     loop-holds
     (search needs)
     (search needs)
@@ -65,8 +79,9 @@ gather-spec =
     (search needs)
     (search needs)
     returns-2
-    sub-with
-    with-requires
+    sub-set
+    mul-set
+    array-read-set
     (search needs)
     (search needs)
     loop-again
