@@ -88,6 +88,10 @@ pub and-true : (a : Bool) → a && true ≡ a
 and-true true = refl
 and-true false = refl
 
+pub and-swap : (a b : Bool) → a && b ≡ b && a
+and-swap true b = sym (and-true b)
+and-swap false b = sym (and-no-r b false refl)
+
 -- ---- or
 
 pub or-cases : (a b : Bool) → a || b ≡ true → (a ≡ true) ⊎ (b ≡ true)
@@ -107,6 +111,10 @@ or-none a b p q = cc
 pub or-false : (a : Bool) → a || false ≡ a
 or-false true = refl
 or-false false = refl
+
+pub or-swap : (a b : Bool) → a || b ≡ b || a
+or-swap true b = sym (or-r b true refl)
+or-swap false b = sym (or-false b)
 
 -- ---- not, and where
 

@@ -1,4 +1,2 @@
 pub mod Places
 pub mod Exits
-pub mod Whole
-pub mod Playing

@@ -3,11 +3,15 @@
 -- Assumes nothing.
 use Prim.Native.Nat.{ℕ}
 use mathlib.Core.Path.{_≡_, refl, sym, _∙_}
+use mathlib.Core.Bool.{true}
 use mathlib.Core.List.{List, [], _∷_, _++_}
 use native.Mathlib.Omega.{arith}
+use lib.ListN.{length}
 use Rattle.guarantee.specs.Machine.{Asked, nextOrder, replied}
-use Rattle.campaign.specs.Calls.{startCall, startLeaves, askedCall, askedLeaves}
-use Rattle.campaign.specs.Lists.{leftOn}
+use Rattle.campaign.specs.Calls.{sheetPasses, startCall, startLeaves, askedCall, askedLeaves}
+use Rattle.whole_campaign.specs.Lists.{leftOn}
+use Rattle.whole_campaign.specs.Whole.{WholeCampaign}
+use Rattle.whole_campaign.proofs.Whole.{whole-campaign}
 use Rattle.decimal.specs.Decimal.{columns, columnsTo, sameBytes}
 use Rattle.drill_lines.specs.Printed.{numberText}
 use Rattle.drill_lines.specs.Replies.{isReply, replyOf}
@@ -92,3 +96,8 @@ unfolding leftOn
 drilled-calls s b₀ st₀ b st begun = ([], refl)
 drilled-calls s b₀ st₀ b st (ordered d k c) = one-more s st₀ _ _ _ (drilled-calls s b₀ st₀ _ _ d) (c .leaves)
 drilled-calls s b₀ st₀ b st (heard letter booking d k c) = one-more s st₀ _ _ _ (drilled-calls s b₀ st₀ _ _ d) (c .leaves)
+
+-- so with a sheet that passes it is a whole campaign
+pub drilled-whole : (s lent st : List ℕ) → sheetPasses s ≡ true → length lent ≡ 65 → DrilledFromStart s lent st
+    → (qs : List Asked) × (st ≡ leftOn s (startLeaves s lent) qs) × WholeCampaign s (startLeaves s lent) qs
+drilled-whole s lent st e h (b, d) = let (qs, f) = drilled-calls s _ _ b st d in (qs, f, whole-campaign s e lent h qs)

@@ -20,7 +20,7 @@ use Rattle.bounded.proofs.First.{Least, first-is}
 use Rattle.sets.specs.Sets.{alone, member, gather, inserted, insert, only, without, kept, subsetOf, apart, disjointFrom}
 use Rattle.sets.proofs.Members.{two-pos, binary, unlike, member-and, member-or, member-xor, member-zero, member-power, member-suc, low-digit, same-set}
 use Rattle.sets.proofs.Gather.{gather-is, gather-lt, gather-put, member-gather}
-use Rattle.sets.proofs.Table.{alone-at}
+use Rattle.sets.proofs.Table.{alone-in}
 
 -- `s | 2 ^ i` puts i in
 pub put-bit : (s i : ℕ) → i < 64 → s < 2 ^ 64 → bitOr s (2 ^ i) ≡ insert s i
@@ -31,10 +31,10 @@ put-bit s i h hs =
 
 -- the same with the bit from a loop's own copy of the table, and one more turn of a loop that gathers so
 pub put-alone : (t : List ℕ) → t ≡ table alone 64 → (s i : ℕ) → i < 64 → s < 2 ^ 64 → bitOr s (getD t i 0) ≡ insert s i
-put-alone t e s i h hs = ap (λ (x : ℕ). bitOr s x) (ap (λ (l : List ℕ). getD l i 0) e ∙ alone-at i h) ∙ put-bit s i h hs
+put-alone t e s i h hs = ap (λ (x : ℕ). bitOr s x) (alone-in t e i h) ∙ put-bit s i h hs
 
 pub gather-alone : (t : List ℕ) → t ≡ table alone 64 → (f : ℕ → Bool) (n : ℕ) → n < 64 → f n ≡ true → bitOr (gather f n) (getD t n 0) ≡ gather f (n + 1)
-gather-alone t e f n h p = ap (λ (x : ℕ). bitOr (gather f n) x) (ap (λ (l : List ℕ). getD l n 0) e ∙ alone-at n h) ∙ gather-put f n p
+gather-alone t e f n h p = ap (λ (x : ℕ). bitOr (gather f n) x) (alone-in t e n h) ∙ gather-put f n p
 
 pub insert-lt : (s i : ℕ) → insert s i < 2 ^ 64
 unfolding insert

@@ -16,8 +16,9 @@ pub bits-are : bits ≡ table alone 64
 unfolding table
 bits-are = refl
 
-pub alone-at : (i : ℕ) → i < 64 → getD (table alone 64) i 0 ≡ 2 ^ i
-alone-at i h = table-at alone 64 i h
+-- an entry of a copy of the table
+pub alone-in : (t : List ℕ) → t ≡ table alone 64 → (i : ℕ) → i < 64 → getD t i 0 ≡ 2 ^ i
+alone-in t e i h = ap (λ (l : List ℕ). getD l i 0) e ∙ table-at alone 64 i h
 
 pub bit-at : (i : ℕ) → i < 64 → getD bits i 0 ≡ 2 ^ i
-bit-at i h = ap (λ (l : List ℕ). getD l i 0) bits-are ∙ alone-at i h
+bit-at = alone-in bits bits-are

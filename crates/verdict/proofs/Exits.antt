@@ -23,7 +23,7 @@ use Rattle.verdict.specs.declared.Network.{Network}
 use Rattle.verdict.specs.declared.Verdict.the-variants.{Pass, Circular, Unclosed, Unused, Repeated, Stranding}
 use Rattle.verdict.specs.Network.{wayOf, inWay, before, pre, exposed, some}
 use Rattle.verdict.specs.Check.{circular, gap, unclosed, usedBy, unused, sameWay, repeated, staying, laterRefuge, stranding, strands, check}
-use Rattle.verdict.specs.Parts.{circularIn, gapIn, unclosedIn, sameIn, repeatedIn, usedIn, usedBelow, beyondOf, leadsAll, sheltersAfter}
+use Rattle.verdict.specs.Parts.{circularIn, gapIn, unclosedIn, sameIn, repeatedIn, usedIn, usedBelow, Spans, leadsAll, sheltersAfter}
 use Rattle.verdict.proofs.Parts.{staying-same, refuges-same}
 
 -- ---- one way and one booking
@@ -37,11 +37,13 @@ module _ (g : Network) (k x : ℕ) where
   unfolding stranding
   not-exposed b e n = sym (and-no-l (exposed g x && inWay g (suc k) x) _ (sym exposed-same ∙ sym e ∙ not-t b n))
 
-  -- S as the code finds it, by what is beyond x
-  module _ (small : g .n ≤ 64) (h : x < 64) (bs : List ℕ) (eb : bs ≡ beyondOf (g .before) (g .n)) (t : ℕ) (et : t ≡ allBelow (g .n))
-      (s : ℕ) (es : s ≡ without (bitAnd t (bitAnd (g .firm) (getD (g .way) k 0))) (getD bs x 0)) where
+  -- S as the code finds it, by what is apart from x
+  module _ (h : x < g .n) (reach apart : List ℕ) (sp : Spans (g .before) (g .n) reach apart) where
+    abbrev s : ℕ
+    s = bitAnd (getD apart x 0) (bitAnd (g .firm) (getD (g .way) k 0))
+
     in-s : s ≡ staying g (suc k) x
-    in-s = rw (eb, et) at es ∙ staying-same g small k x h
+    in-s = staying-same g k x h reach apart sp
 
     pub nothing-stays : s ≡ 0 → false ≡ stranding g (suc k) x
     unfolding stranding some
@@ -50,12 +52,12 @@ module _ (g : Network) (k x : ℕ) where
         (ap not (eq-eqb (staying g (suc k) x) 0 (sym in-s ∙ z)))))
 
     pub sheltered : (b : Bool) → b ≡ member (bitAnd (g .exposed) (getD (g .way) k 0)) x → not b ≡ false → (s ≡ 0 → ⊥)
-        → (l : ℕ) → l ≡ gather (leadsAll bs s) 64
+        → (l : ℕ) → l ≡ gather (leadsAll reach s (g .n)) 64
         → (r : Bool) → r ≡ any (sheltersAfter s (bitOr (getD (g .before) x 0) l) (g .exposed) (g .way) (k + 1)) (g .a)
         → not r ≡ stranding g (suc k) x
     unfolding stranding some
     sheltered b e nb ns l el r er =
-        let last : r ≡ any (laterRefuge g (suc k) x) (g .a) = rw (el, eb, in-s, add-one) at er ∙ refuges-same g small k x h in
+        let last : r ≡ any (laterRefuge g (suc k) x) (g .a) = rw (el, in-s, add-one) at er ∙ refuges-same g k x h reach apart sp in
         ap not last
         ∙ and-go (not (eqb (staying g (suc k) x) 0)) _ (ap not (ne-eqb (staying g (suc k) x) 0 (λ z. ns (in-s ∙ z))))
         ∙ and-go (exposed g x && inWay g (suc k) x) _ (sym exposed-same ∙ sym e ∙ not-f b nb)

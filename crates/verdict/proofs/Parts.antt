@@ -1,8 +1,8 @@
 -- The tests over the sets that the loops look at are the tests of the network, and the turn of a loop that fills a set.
 -- Assumes nothing.
-use mathlib.Core.Path.{_≡_, sym, ap, ap₂, _∙_}
+use mathlib.Core.Path.{_≡_, refl, sym, ap, ap₂, _∙_}
 use mathlib.Core.Logic.{inl, inr}
-use mathlib.Core.Bool.{Bool, false, not, _&&_, _||_}
+use mathlib.Core.Bool.{Bool, true, false, not, _&&_, _||_}
 use mathlib.Core.List.{List}
 use Prim.Native.Nat.{ℕ, suc, _+_, _^_, _≤_, _<_, suc-le-suc}
 use borrow.Author.Tests.{eq-eqb, ne-eqb, lt-ltb, le-ltb}
@@ -10,17 +10,16 @@ use lib.Dec.{eqb, ltb}
 use lib.Bits.{bitAnd, bitOr, or-lt}
 use lib.ListN.{getD}
 use Rattle.bounded.specs.Bounded.{imp, any, all}
-use Rattle.bounded.proofs.Bools.{same?, and-no-l, and-go}
-use Rattle.bounded.proofs.Lists.{table-at}
-use Rattle.bounded.proofs.Tests.{any-suc, any-ext, all-ext}
-use Rattle.sets.specs.Sets.{member, gather, without, kept, subsetOf, always, allBelow}
-use Rattle.sets.proofs.Members.{member-and, member-or}
-use Rattle.sets.proofs.Gather.{gather-is, gather-lt, member-gather}
-use Rattle.sets.proofs.Whole.{gather-ext, gather-and, gather-without, all-subset}
+use Rattle.bounded.proofs.Bools.{which, same?, and-no-l, and-go, and-true, and-swap, or-swap}
+use Rattle.bounded.proofs.Tests.{any-suc, any-ext, all-suc, all-ext}
+use Rattle.sets.specs.Sets.{member, gather, kept, subsetOf, always, allBelow}
+use Rattle.sets.proofs.Members.{member-and, member-or, member-power}
+use Rattle.sets.proofs.Gather.{gather-is, gather-lt, gather-put, gather-skip, member-gather}
+use Rattle.sets.proofs.Whole.{gather-ext, gather-and, below-is}
 use Rattle.verdict.specs.declared.Network.{Network}
 use Rattle.verdict.specs.Network.{wayOf, inWay, before, pre, firm, exposed}
 use Rattle.verdict.specs.Check.{stays, staying, leadsTo, settledBy, safe, refuge, laterRefuge}
-use Rattle.verdict.specs.Parts.{usedIn, usedBelow, beyondIn, beyondAt, beyondOf, leadsAll, shelters, sheltersAfter}
+use Rattle.verdict.specs.Parts.{usedIn, usedBelow, reachAt, apartIn, apartAt, PutApart, Spans, leads, leadsAll, shelters, sheltersAfter}
 
 -- ---- the turn of a loop
 
@@ -31,57 +30,81 @@ used-turn ws k h =
     (λ b l. member-or (gather (usedBelow ws k) 64) (getD ws k 0) b
     ∙ ap (λ (x : Bool). x || member (getD ws k 0) b) (member-gather (usedBelow ws k) 64 b l) ∙ sym (any-suc (usedIn ws b) k))
 
+pub leads-none : (rs : List ℕ) (s : ℕ) → 18446744073709551615 ≡ gather (leadsAll rs s 0) 64
+unfolding leadsAll all allBelow always
+leads-none rs s = sym (below-is 64) ∙ gather-ext always (leadsAll rs s 0) 64 (λ y l. refl)
+
+module _ (rs : List ℕ) (s i : ℕ) where
+  pub leads-more : member s i ≡ true → bitAnd (gather (leadsAll rs s i) 64) (getD rs i 0) ≡ gather (leadsAll rs s (i + 1)) 64
+  unfolding leadsAll leads
+  leads-more e =
+      gather-and (leadsAll rs s i) 64 (getD rs i 0)
+      ∙ gather-ext _ (leadsAll rs s (i + 1)) 64 (λ y l. sym (all-suc (leads rs s y) i ∙ rw e))
+
+  pub leads-same : member s i ≡ false → gather (leadsAll rs s i) 64 ≡ gather (leadsAll rs s (i + 1)) 64
+  unfolding leadsAll leads
+  leads-same e =
+      gather-ext (leadsAll rs s i) (leadsAll rs s (i + 1)) 64 (λ y l. sym (all-suc (leads rs s y) i ∙ rw e (and-true (all (leads rs s y) i))))
+
+-- booking s is put into the sets of those that it is apart from
+pub apart-turn : (p old new : List ℕ) (s n up b : ℕ) → up ≡ reachAt p s → b ≡ 2 ^ s → PutApart old up b n new
+    → ((x : ℕ) → x < n → getD old x 0 ≡ gather (apartIn p x) s) → (x : ℕ) → x < n → getD new x 0 ≡ gather (apartIn p x) (s + 1)
+unfolding apartIn
+apart-turn p old new s n up b eu eb t inv x h =
+    t .put x h
+    ∙ rw (inv x h, eu, eb) (elim (which (member (reachAt p s) x)) [
+      | inl e ↦ rw e (gather-skip (apartIn p x) s (ap not e))
+      | inr e ↦ rw e (gather-put (apartIn p x) s (ap not e))
+    ])
+
 -- ---- S and the refuges of a network
 
--- neither of two, as the check and the code say it: i is not j, and the other test fails
-neither : (i j : ℕ) (b : Bool) → not (eqb j i || b) ≡ not (eqb i j) && not b
-neither i j b = elim (same? i j) [
+-- neither of two, as the check and the code say it: the other test fails, and i is not j
+neither : (i j : ℕ) (b : Bool) → not (b || eqb j i) ≡ not (eqb i j) && not b
+neither i j b = ap not (or-swap b (eqb j i)) ∙ elim (same? i j) [
   | inl p ↦ rw (eq-eqb i j p, eq-eqb j i (sym p))
   | inr d ↦ rw (ne-eqb i j d, ne-eqb j i (λ e. d (sym e)))
 ]
 
-pub beyond-at : (p : List ℕ) (n x : ℕ) → x < 64 → getD (beyondOf p n) x 0 ≡ gather (beyondIn p x) n
-unfolding beyondOf beyondAt
-beyond-at p n x h = table-at (beyondAt p n) 64 x h
+-- s itself and all that precede it, in members
+reach-member : (p : List ℕ) (s y : ℕ) → member (reachAt p s) y ≡ member (getD p s 0) y || eqb y s
+unfolding reachAt
+reach-member p s y = member-or (getD p s 0) (2 ^ s) y ∙ ap (λ (b : Bool). member (getD p s 0) y || b) (member-power s y)
 
-module _ (g : Network) (small : g .n ≤ 64) (k x : ℕ) (h : x < 64) where
+module _ (g : Network) (k x : ℕ) (h : x < g .n) (reach apart : List ℕ) (sp : Spans (g .before) (g .n) reach apart) where
   abbrev here : ℕ
   here = getD (g .way) k 0
 
-  abbrev reach : List ℕ
-  reach = beyondOf (g .before) (g .n)
-
-  -- s is firm in this way and not beyond x
-  stays-same : (s : ℕ) → s < g .n → member (bitAnd (g .firm) here) s && not (member (getD reach x 0) s) ≡ stays g (suc k) x s
-  unfolding beyondIn stays firm inWay wayOf pre before
+  -- s is apart from x, and firm in this way
+  stays-same : (s : ℕ) → s < g .n → apartIn (g .before) x s && member (bitAnd (g .firm) here) s ≡ stays g (suc k) x s
+  unfolding apartIn stays firm inWay wayOf pre before
   stays-same s l =
-      ap₂ (λ (a b : Bool). a && b) (member-and (g .firm) here s)
-      (ap not (ap (λ (t : ℕ). member t s) (beyond-at (g .before) (g .n) x h) ∙ member-gather (beyondIn (g .before) x) (g .n) s l)
-      ∙ neither s x (member (getD (g .before) s 0) x))
+      and-swap (not (member (reachAt (g .before) s) x)) (member (bitAnd (g .firm) here) s)
+      ∙ ap₂ (λ (a b : Bool). a && b) (member-and (g .firm) here s)
+      (ap not (reach-member (g .before) s x) ∙ neither s x (member (getD (g .before) s 0) x))
 
-  pub staying-same : without (bitAnd (allBelow (g .n)) (bitAnd (g .firm) here)) (getD reach x 0) ≡ staying g (suc k) x
-  unfolding staying allBelow always
+  pub staying-same : bitAnd (getD apart x 0) (bitAnd (g .firm) here) ≡ staying g (suc k) x
+  unfolding staying apartAt
   staying-same =
-      ap (λ (t : ℕ). without t (getD reach x 0)) (gather-and always (g .n) (bitAnd (g .firm) here))
-      ∙ gather-without (λ i. always i && member (bitAnd (g .firm) here) i) (g .n) (getD reach x 0) small
+      ap (λ (t : ℕ). bitAnd t (bitAnd (g .firm) here)) (sp .clear x h)
+      ∙ gather-and (apartIn (g .before) x) (g .n) (bitAnd (g .firm) here)
       ∙ gather-ext _ (stays g (suc k) x) (g .n) stays-same
 
-  leads-same : (y : ℕ) → y < 64 → leadsAll reach (staying g (suc k) x) y ≡ all (leadsTo g (suc k) x y) (g .n)
-  unfolding leadsAll beyondIn leadsTo staying pre before
-  leads-same y l =
-      sym (all-subset (stays g (suc k) x) (getD reach y 0) (g .n) small)
-      ∙ all-ext _ (leadsTo g (suc k) x y) (g .n) (λ s m. ap (imp (stays g (suc k) x s))
-      (ap (λ (t : ℕ). member t s) (beyond-at (g .before) (g .n) y l) ∙ member-gather (beyondIn (g .before) y) (g .n) s m))
+  leading-same : (y : ℕ) → leadsAll reach (staying g (suc k) x) (g .n) y ≡ all (leadsTo g (suc k) x y) (g .n)
+  unfolding leadsAll leads leadsTo staying pre before
+  leading-same y =
+      all-ext _ (leadsTo g (suc k) x y) (g .n) (λ s m. ap₂ imp (member-gather (stays g (suc k) x) (g .n) s m)
+      (ap (λ (t : ℕ). member t y) (sp .up s m) ∙ reach-member (g .before) s y ∙ or-swap (member (getD (g .before) s 0) y) (eqb y s)))
 
   -- the bookings that may be exposed in a refuge
   abbrev pub harmless : ℕ
-  harmless = bitOr (getD (g .before) x 0) (gather (leadsAll reach (staying g (suc k) x)) 64)
+  harmless = bitOr (getD (g .before) x 0) (gather (leadsAll reach (staying g (suc k) x) (g .n)) 64)
 
   settled-same : (y : ℕ) → y < 64 → member harmless y ≡ settledBy g (suc k) x y
   unfolding settledBy pre before
   settled-same y l =
-      member-or (getD (g .before) x 0) (gather (leadsAll reach (staying g (suc k) x)) 64) y
-      ∙ ap (λ (b : Bool). member (getD (g .before) x 0) y || b) (member-gather (leadsAll reach (staying g (suc k) x)) 64 y l ∙ leads-same y l)
+      member-or (getD (g .before) x 0) (gather (leadsAll reach (staying g (suc k) x) (g .n)) 64) y
+      ∙ ap (λ (b : Bool). member (getD (g .before) x 0) y || b) (member-gather (leadsAll reach (staying g (suc k) x) (g .n)) 64 y l ∙ leading-same y)
 
   refuge-same : (j : ℕ) → shelters (staying g (suc k) x) harmless (g .exposed) (getD (g .way) j 0) ≡ refuge g (suc k) x (suc j)
   unfolding shelters refuge safe exposed inWay wayOf subsetOf kept

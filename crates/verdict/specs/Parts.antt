@@ -1,13 +1,14 @@
 -- The tests of the check over the sets that its loops look at, so that a loop is handed these and not a whole network:
 -- p has the predecessors of each booking, ws the ways. proofs/Parts.antt has that they are the tests of the network.
 -- Assumes nothing.
-use mathlib.Core.Bool.{Bool, not, _&&_, _||_}
+use mathlib.Core.Path.{_≡_}
+use mathlib.Core.Bool.{Bool, not, cond, _&&_}
 use mathlib.Core.List.{List}
-use Prim.Native.Nat.{ℕ, suc}
+use Prim.Native.Nat.{ℕ, suc, _^_, _<_}
 use lib.Dec.{eqb, ltb}
-use lib.Bits.{bitAnd}
-use lib.ListN.{getD}
-use Rattle.bounded.specs.Bounded.{any, table}
+use lib.Bits.{bitAnd, bitOr}
+use lib.ListN.{length, getD}
+use Rattle.bounded.specs.Bounded.{imp, any, all}
 use Rattle.sets.specs.Sets.{member, gather, subsetOf}
 use Rattle.verdict.specs.declared.Network.{Network}
 
@@ -37,20 +38,33 @@ repeatedIn ws k = any (sameIn ws k) k
 unfoldable pub unclosedIn : List ℕ → List ℕ → ℕ → ℕ → Bool
 unclosedIn p ws n k = any (gapIn p (getD ws k 0)) n
 
--- s is x, or x precedes it
-unfoldable pub beyondIn : List ℕ → ℕ → ℕ → Bool
-beyondIn p x s = eqb x s || member (getD p s 0) x
+-- s and all that precede it
+unfoldable pub reachAt : List ℕ → ℕ → ℕ
+reachAt p s = bitOr (getD p s 0) (2 ^ s)
 
--- the bookings below n that are x or that x precedes; these sets for every x
-unfoldable pub beyondAt : List ℕ → ℕ → ℕ → ℕ
-beyondAt p n x = gather (beyondIn p x) n
+-- s is not x, and x does not precede it; the bookings below n that are so
+unfoldable pub apartIn : List ℕ → ℕ → ℕ → Bool
+apartIn p x s = not (member (reachAt p s) x)
 
-unfoldable pub beyondOf : List ℕ → ℕ → List ℕ
-beyondOf p n = table (beyondAt p n) 64
+unfoldable pub apartAt : List ℕ → ℕ → ℕ → ℕ
+apartAt p n x = gather (apartIn p x) n
 
--- y equals or precedes every member of s, by what is beyond each booking
-unfoldable pub leadsAll : List ℕ → ℕ → ℕ → Bool
-leadsAll bs s y = subsetOf s (getD bs y 0)
+-- what is found once for all ways: these two sets for each booking below n
+pub record Spans (p : List ℕ) (n : ℕ) (reach apart : List ℕ) : Type 0 where
+  pub up : (s : ℕ) → s < n → getD reach s 0 ≡ reachAt p s
+  pub clear : (x : ℕ) → x < n → getD apart x 0 ≡ apartAt p n x
+
+-- a turn of that work puts b into the set of each x below n that is not in up
+pub record PutApart (old : List ℕ) (up b n : ℕ) (new : List ℕ) : Type 0 where
+  pub whole : length new ≡ 64
+  pub put : (x : ℕ) → x < n → getD new x 0 ≡ cond (member up x) (getD old x 0) (bitOr (getD old x 0) b)
+
+-- y equals or precedes i, if i is in s; so it is for each i below n
+unfoldable pub leads : List ℕ → ℕ → ℕ → ℕ → Bool
+leads reach s y i = imp (member s i) (member (getD reach i 0) y)
+
+unfoldable pub leadsAll : List ℕ → ℕ → ℕ → ℕ → Bool
+leadsAll reach s n y = all (leads reach s y) n
 
 -- the way has all of s, and its exposed bookings are in the set ok
 unfoldable pub shelters : ℕ → ℕ → ℕ → ℕ → Bool

@@ -1,13 +1,15 @@
 // What the rules look at in a plan that has been read and whose precedence is closed, and the check: refusals 4 to 8.
 use plan::Plan;
 ghost use mathlib.Core.Path.{_≡_};
-ghost use mathlib.Core.Bool.{not, _&&_, _||_};
+ghost use mathlib.Core.Bool.{not, _&&_, _||_, cond};
 ghost use Prim.Native.Nat.{suc, _≤_, _<_};
 ghost use lib.Dec.{eqb};
+ghost use lib.Bits.{bitOr};
+ghost use lib.ListN.{length, replicate};
 ghost use Rattle.bounded.specs.Bounded.{any, first, table};
 ghost use Rattle.sets.specs.Sets.{alone, member, gather, subsetOf};
 ghost use Rattle.verdict.specs.FromPlan.{ofKind, directOf, networkOf, Ends};
-ghost use Rattle.verdict.specs.Parts.{circularIn, gapIn, unclosedIn, usedBelow, repeatedIn, beyondAt, beyondOf, leadsAll, shelters, sheltersAfter, net};
+ghost use Rattle.verdict.specs.Parts.{circularIn, gapIn, unclosedIn, usedBelow, repeatedIn, PutApart, Spans, leadsAll, shelters, sheltersAfter, net};
 ghost use Rattle.verdict.specs.Check.{stranding, strands, check};
 
 // A plan as the rules see it. Booking number b is index b - 1 and bit b - 1 of every set; way[k] is way number k + 1.
@@ -181,51 +183,50 @@ fn first_repeated(way: &[u64; 16], a: usize) -> usize
     a
 }
 
-// Whether s is x, or x precedes it.
-fn is_beyond(pred: u64, x: usize, s: usize) -> bool
+// The set s with the set b put in, where x is not in up.
+fn put_apart(s: u64, up: u64, b: u64, x: usize) -> u64
     requires { ⌜ x < 64 ⌝ }
-    ensures { λ r. ⌜ r ≡ (eqb x s || member pred x) ⌝ }
+    ensures { λ r. ⌜ r ≡ cond (member up x) s (bitOr s b) ⌝ }
 {
-    if x == s {
-        return true;
-    }
-    sets::has(pred, x)
+    if sets::has(up, x) { s } else { s | b }
 }
 
-// The bookings below n that are x or that x precedes.
-fn beyond(before: &[u64; 64], n: usize, x: usize) -> u64
-    requires { ⌜ (n ≤ 64) × (x < 64) ⌝ }
-    ensures { λ r. ⌜ r ≡ beyondAt (now (before .entry)) n x ⌝ }
+// Puts b into the set of each x below n that is not in up.
+fn put_all_apart(apart: &mut [u64; 64], up: u64, b: u64, n: usize)
+    requires { ⌜ (length (now apart) ≡ 64) × (n ≤ 64) ⌝ }
+    ensures { λ _. ⌜ PutApart (now (apart .entry)) up b n (now (apart .exit)) ⌝ }
 {
-    let mut r: u64 = 0;
-    for s in 0..n {
-        if is_beyond(before[s], x, s) {
-            r = r | sets::bit(s);
-        }
+    for x in 0..n {
+        apart[x] = put_apart(apart[x], up, b, x);
     }
-    r
 }
 
-// These sets for every x, found once for all ways.
-fn all_beyond(before: &[u64; 64], n: usize) -> [u64; 64]
-    requires { ⌜ n ≤ 64 ⌝ }
-    ensures { λ r. ⌜ r ≡ beyondOf (now (before .entry)) n ⌝ }
+// For each booking below n, itself and all that precede it; and in apart, which comes empty, the bookings below n that it
+// neither equals nor precedes. Both are found once for all ways.
+fn reaches(before: &[u64; 64], apart: &mut [u64; 64], n: usize) -> [u64; 64]
+    requires { ⌜ (now apart ≡ replicate 64 0) × (n ≤ 64) ⌝ }
+    ensures { λ r. ⌜ Spans (now (before .entry)) n r (now (apart .exit)) ⌝ }
 {
+    let bits = sets::bits();
     let mut r = [0u64; 64];
-    for x in 0..64 {
-        r[x] = beyond(before, n, x);
+    for s in 0..n {
+        let b = bits[s];
+        let up = before[s] | b;
+        r[s] = up;
+        put_all_apart(apart, up, b, n);
     }
     r
 }
 
-// The bookings y that equal or precede every member of s: s is all beyond y.
-fn leading(s: u64, beyond: &[u64; 64]) -> u64
-    ensures { λ r. ⌜ r ≡ gather (leadsAll (now (beyond .entry)) s) 64 ⌝ }
+// The bookings that equal or precede every member of s, by what reaches each booking.
+fn leading(s: u64, reach: &[u64; 64], n: usize) -> u64
+    requires { ⌜ n ≤ 64 ⌝ }
+    ensures { λ r. ⌜ r ≡ gather (leadsAll (now (reach .entry)) s n) 64 ⌝ }
 {
-    let mut r: u64 = 0;
-    for y in 0..64 {
-        if sets::subset(s, beyond[y]) {
-            r = r | sets::bit(y);
+    let mut r: u64 = 18446744073709551615;
+    for i in 0..n {
+        if sets::has(s, i) {
+            r = r & reach[i];
         }
     }
     r
@@ -257,7 +258,8 @@ fn is_sheltered(s: u64, ok: u64, exposed: u64, way: &[u64; 16], w: usize, a: usi
 // 8: whether x is an exposed booking of way k + 1 that leaves something firm behind with no later way to go to.
 fn is_stranding(
     before: &[u64; 64],
-    beyond: &[u64; 64],
+    reach: &[u64; 64],
+    apart: &[u64; 64],
     way: &[u64; 16],
     firm: u64,
     exposed: u64,
@@ -266,25 +268,26 @@ fn is_stranding(
     k: usize,
     x: usize,
 ) -> bool
-    requires { ⌜ (now beyond ≡ beyondOf (now before) n) × (n ≤ 64) × (a ≤ 16) × (k < a) × (x < 64) ⌝ }
+    requires { ⌜ Spans (now before) n (now reach) (now apart) × (n ≤ 64) × (a ≤ 16) × (k < a) × (x < n) ⌝ }
     ensures { λ r. ⌜ r ≡ stranding (net n a (now (way .entry)) (now (before .entry)) firm exposed) (suc k) x ⌝ }
 {
     let here = way[k];
     if !sets::has(exposed & here, x) {
         return false;
     }
-    let stay = sets::minus(sets::all_below(n) & (firm & here), beyond[x]);
+    let stay = apart[x] & (firm & here);
     if stay == 0 {
         return false;
     }
-    let ok = before[x] | leading(stay, beyond);
+    let ok = before[x] | leading(stay, reach, n);
     !is_sheltered(stay, ok, exposed, way, k + 1, a)
 }
 
 // The lowest stranding booking of way k + 1, or n.
 fn first_stranding(
     before: &[u64; 64],
-    beyond: &[u64; 64],
+    reach: &[u64; 64],
+    apart: &[u64; 64],
     way: &[u64; 16],
     firm: u64,
     exposed: u64,
@@ -292,11 +295,11 @@ fn first_stranding(
     a: usize,
     k: usize,
 ) -> usize
-    requires { ⌜ (now beyond ≡ beyondOf (now before) n) × (n ≤ 64) × (a ≤ 16) × (k < a) ⌝ }
+    requires { ⌜ Spans (now before) n (now reach) (now apart) × (n ≤ 64) × (a ≤ 16) × (k < a) ⌝ }
     ensures { λ r. ⌜ r ≡ first (stranding (net n a (now (way .entry)) (now (before .entry)) firm exposed) (suc k)) n ⌝ }
 {
     for x in 0..n {
-        if is_stranding(before, beyond, way, firm, exposed, n, a, k, x) {
+        if is_stranding(before, reach, apart, way, firm, exposed, n, a, k, x) {
             return x;
         }
     }
@@ -306,7 +309,8 @@ fn first_stranding(
 // Whether some booking of way k + 1 strands.
 fn strands(
     before: &[u64; 64],
-    beyond: &[u64; 64],
+    reach: &[u64; 64],
+    apart: &[u64; 64],
     way: &[u64; 16],
     firm: u64,
     exposed: u64,
@@ -314,27 +318,28 @@ fn strands(
     a: usize,
     k: usize,
 ) -> bool
-    requires { ⌜ (now beyond ≡ beyondOf (now before) n) × (n ≤ 64) × (a ≤ 16) × (k < a) ⌝ }
+    requires { ⌜ Spans (now before) n (now reach) (now apart) × (n ≤ 64) × (a ≤ 16) × (k < a) ⌝ }
     ensures { λ r. ⌜ r ≡ strands (net n a (now (way .entry)) (now (before .entry)) firm exposed) k ⌝ }
 {
-    first_stranding(before, beyond, way, firm, exposed, n, a, k) < n
+    first_stranding(before, reach, apart, way, firm, exposed, n, a, k) < n
 }
 
 // The first way, by index, in which some booking strands, or a.
 fn first_strands(
     before: &[u64; 64],
-    beyond: &[u64; 64],
+    reach: &[u64; 64],
+    apart: &[u64; 64],
     way: &[u64; 16],
     firm: u64,
     exposed: u64,
     n: usize,
     a: usize,
 ) -> usize
-    requires { ⌜ (now beyond ≡ beyondOf (now before) n) × (n ≤ 64) × (a ≤ 16) ⌝ }
+    requires { ⌜ Spans (now before) n (now reach) (now apart) × (n ≤ 64) × (a ≤ 16) ⌝ }
     ensures { λ r. ⌜ r ≡ first (strands (net n a (now (way .entry)) (now (before .entry)) firm exposed)) a ⌝ }
 {
     for k in 0..a {
-        if strands(before, beyond, way, firm, exposed, n, a, k) {
+        if strands(before, reach, apart, way, firm, exposed, n, a, k) {
             return k;
         }
     }
@@ -366,10 +371,11 @@ pub fn check(g: Network) -> Verdict
     if k7 < a {
         return Verdict::Repeated(k7 + 1);
     }
-    let beyond = all_beyond(&before, n);
-    let k8 = first_strands(&before, &beyond, &way, g.firm, g.exposed, n, a);
+    let mut apart = [0u64; 64];
+    let reach = reaches(&before, &mut apart, n);
+    let k8 = first_strands(&before, &reach, &apart, &way, g.firm, g.exposed, n, a);
     if k8 < a {
-        let b8 = first_stranding(&before, &beyond, &way, g.firm, g.exposed, n, a, k8);
+        let b8 = first_stranding(&before, &reach, &apart, &way, g.firm, g.exposed, n, a, k8);
         return Verdict::Stranding(k8 + 1, b8);
     }
     Verdict::Pass

@@ -5,11 +5,8 @@ use borrow.Author.Needs.{needs}
 use Rattle.campaign.proofs.campaign_check.Statement.{statement}
 use Rattle.campaign.proofs.campaign_check.Tie as tie
 
-judge-sheet-requires : tie.Need-judge-sheet-requires
-judge-sheet-requires c κs = search needs
-
 returns : tie.Need-returns
 returns c = bits-is _ _ (c .judge-sheet .ensures)
 
 pub campaign-check-spec : {M : Type 1} → statement M
-campaign-check-spec = tie.close (tie.spec judge-sheet-requires returns)
+campaign-check-spec = tie.close (tie.spec (search needs) returns)

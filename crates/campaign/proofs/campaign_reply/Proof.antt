@@ -10,29 +10,14 @@ use borrow.Author.Needs.{needs}
 use Rattle.campaign.proofs.campaign_reply.Statement.{statement}
 use Rattle.campaign.proofs.campaign_reply.Tie as tie
 
-judge-sheet-requires : tie.Need-judge-sheet-requires
-judge-sheet-requires c κs = search needs
-
 returns : tie.Need-returns
 returns c = asked-refused _ _ (c .before .before .judge-sheet .ensures) (c .if1 .taken) _ (replied (c .before .before .before .before .before .args .letter) (c .before .before .before .before .before .args .booking))
-
-pack-requires : tie.Need-pack-requires
-pack-requires c κs = search needs
 
 returns-2 : tie.Need-returns-2
 returns-2 c = asked-short _ _ (c .before .before .before .before .judge-sheet .ensures) (c .before .before .if1 .left) _ (replied (c .before .before .before .before .before .before .before .args .letter) (c .before .before .before .before .before .before .before .args .booking)) (c .before .if2 .taken) _ (c .pack .ensures)
 
-load-requires : tie.Need-load-requires
-load-requires c κs = search needs
-
 is-sound-requires : tie.Need-is-sound-requires
 is-sound-requires c κs = bounded _ _ (c .before .before .before .before .before .before .judge-sheet .ensures) (c .before .before .before .before .if1 .left)
-
-pack-requires-2 : tie.Need-pack-requires-2
-pack-requires-2 c κs = search needs
-
-same-length : tie.Need-same-length
-same-length c = search needs
 
 returns-3 : tie.Need-returns-3
 returns-3 c = asked-unsound _ _ (c .before .before .before .before .before .before .before .before .before .judge-sheet .ensures) (c .before .before .before .before .before .before .before .if1 .left) _ (replied (c .before .before .before .before .before .before .before .before .before .before .before .before .args .letter) (c .before .before .before .before .before .before .before .before .before .before .before .before .args .booking)) (c .before .before .before .before .before .before .if2 .left) _ (c .before .before .before .load .ensures) _ (c .before .before .is-sound .ensures) (c .before .if3 .taken) _ (c .pack2 .ensures)
@@ -40,14 +25,8 @@ returns-3 c = asked-unsound _ _ (c .before .before .before .before .before .befo
 reply-to-requires : tie.Need-reply-to-requires
 reply-to-requires c κs = let b = bounded _ _ (c .before .before .before .before .before .before .before .before .judge-sheet .ensures) (c .before .before .before .before .before .before .if1 .left) in (b .0, b .1, way-small _ _ (c .before .before .before .before .before .before .before .before .judge-sheet .ensures) (c .before .before .before .before .before .before .if1 .left) _ (replied (c .before .before .before .before .before .before .before .before .before .before .before .args .letter) (c .before .before .before .before .before .before .before .before .before .before .before .args .booking)) (c .before .before .before .before .before .if2 .left) _ (c .before .before .load .ensures) _ (c .before .is-sound .ensures) (c .if3 .left))
 
-store-requires : tie.Need-store-requires
-store-requires c κs = search needs
-
 reply-bits-requires : tie.Need-reply-bits-requires
 reply-bits-requires c κs = λ e. taken-small _ _ _ _ _ (bounded _ _ (c .before .before .before .before .before .before .before .before .before .before .before .before .before .before .judge-sheet .ensures) (c .before .before .before .before .before .before .before .before .before .before .before .before .if1 .left) .0) (c .before .before .before .before .before .reply-to .ensures) e
-
-same-length-2 : tie.Need-same-length-2
-same-length-2 c = search needs
 
 returns-4 : tie.Need-returns-4
 unfolding answer after
@@ -57,17 +36,17 @@ pub campaign-reply-spec : {M : Type 1} → statement M
 campaign-reply-spec =
     tie.close
     (tie.spec
-    judge-sheet-requires
+    (search needs)
     returns
-    pack-requires
+    (search needs)
     returns-2
-    load-requires
+    (search needs)
     is-sound-requires
-    pack-requires-2
-    same-length
+    (search needs)
+    (search needs)
     returns-3
     reply-to-requires
-    store-requires
+    (search needs)
     reply-bits-requires
-    same-length-2
+    (search needs)
     returns-4)

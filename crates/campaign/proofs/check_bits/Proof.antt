@@ -8,15 +8,6 @@ use borrow.Author.Needs.{needs}
 use Rattle.campaign.proofs.check_bits.Statement.{statement}
 use Rattle.campaign.proofs.check_bits.Tie as tie
 
-enum-told : tie.Need-enum-told
-enum-told c = search needs
-
-pack-requires : tie.Need-pack-requires
-pack-requires c κs = search needs
-
-enum-known-v : tie.Need-enum-known-v
-enum-known-v c = search needs
-
 add-pack : tie.Need-add-pack
 unfolding verdictPlace
 add-pack c = omega (arith, rw (c .before .v .given .1) at (c .before .before .before .pre))
@@ -25,15 +16,9 @@ pack-requires-2 : tie.Need-pack-requires-2
 unfolding verdictPlace
 pack-requires-2 c κs = omega (arith, rw (c .before .v .given .1) at (c .before .before .before .pre))
 
-enum-known-v-2 : tie.Need-enum-known-v-2
-enum-known-v-2 c = search needs
-
 pack-requires-3 : tie.Need-pack-requires-3
 unfolding verdictPlace
 pack-requires-3 c κs = omega (arith, rw (c .before .v2 .given .1) at (c .before .before .before .pre))
-
-enum-known-v-3 : tie.Need-enum-known-v-3
-enum-known-v-3 c = search needs
 
 add-pack-2 : tie.Need-add-pack-2
 unfolding verdictPlace
@@ -43,15 +28,9 @@ pack-requires-4 : tie.Need-pack-requires-4
 unfolding verdictPlace
 pack-requires-4 c κs = omega (arith, rw (c .before .v3 .given .1) at (c .before .before .before .pre))
 
-enum-known-v-4 : tie.Need-enum-known-v-4
-enum-known-v-4 c = search needs
-
 pack-requires-5 : tie.Need-pack-requires-5
 unfolding verdictPlace
 pack-requires-5 c κs = omega (arith, rw (c .before .v4 .given .1) at (c .before .before .before .pre))
-
-enum-known-v-5 : tie.Need-enum-known-v-5
-enum-known-v-5 c = search needs
 
 mul-pack : tie.Need-mul-pack
 unfolding verdictPlace
@@ -97,19 +76,19 @@ pub check-bits-spec : {M : Type 1} → statement M
 check-bits-spec =
     tie.close
     (tie.spec
-    enum-told
-    pack-requires
-    enum-known-v
+    (search needs)
+    (search needs)
+    (search needs)
     add-pack
     pack-requires-2
-    enum-known-v-2
+    (search needs)
     pack-requires-3
-    enum-known-v-3
+    (search needs)
     add-pack-2
     pack-requires-4
-    enum-known-v-4
+    (search needs)
     pack-requires-5
-    enum-known-v-5
+    (search needs)
     mul-pack
     add-pack-3
     add-pack-4

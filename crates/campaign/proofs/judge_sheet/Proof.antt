@@ -20,17 +20,8 @@ net : (c : tie.After-network-of) → c .network-of .result ≡ networkIn (c .bef
 unfolding networkIn
 net c = c .network-of .ensures ∙ ap (λ (x : Sheet). networkOf (x .plan)) (c .before .before .before .before .read-sheet .ensures)
 
-read-sheet-requires : tie.Need-read-sheet-requires
-read-sheet-requires c κs = search needs
-
-is-fine-requires : tie.Need-is-fine-requires
-is-fine-requires c κs = search needs
-
 judged-bits-requires : tie.Need-judged-bits-requires
 judged-bits-requires c κs = rw (c .before .before .read-sheet .ensures) (sheet-small _)
-
-no-network-requires : tie.Need-no-network-requires
-no-network-requires c κs = search needs
 
 returns : tie.Need-returns
 returns c = checked-refused _ _ _ _ _ (ap (λ (x : Sheet). x .judged) (c .before .before .before .before .read-sheet .ensures)) (c .before .before .before .is-fine .ensures) (c .before .before .if1 .taken) (c .before .judged-bits .ensures) (c .no-network .ensures)
@@ -44,9 +35,6 @@ check-requires c κs = rw (net c) (fine-bounds _ (fine (c .before .before)))
 check-bits-requires : tie.Need-check-bits-requires
 check-bits-requires c κs = let b = fine-bounds _ (fine (c .before .before .before)) in rw (c .check .ensures, net (c .before)) (verdict-small _ (b .0) (b .1))
 
-is-pass-requires : tie.Need-is-pass-requires
-is-pass-requires c κs = search needs
-
 returns-2 : tie.Need-returns-2
 returns-2 c = checked-read _ _ _ _ _ (fine (c .before .before .before .before .before)) (net (c .before .before .before)) (c .before .before .check .ensures) (c .before .check-bits .ensures) (c .is-pass .ensures)
 
@@ -54,13 +42,13 @@ pub judge-sheet-spec : {M : Type 1} → statement M
 judge-sheet-spec =
     tie.close
     (tie.spec
-    read-sheet-requires
-    is-fine-requires
+    (search needs)
+    (search needs)
     judged-bits-requires
-    no-network-requires
+    (search needs)
     returns
     network-of-requires
     check-requires
     check-bits-requires
-    is-pass-requires
+    (search needs)
     returns-2)

@@ -7,26 +7,11 @@ use borrow.Author.Needs.{needs}
 use Rattle.campaign.proofs.judged_bits.Statement.{statement}
 use Rattle.campaign.proofs.judged_bits.Tie as tie
 
-enum-told : tie.Need-enum-told
-enum-told c = search needs
-
-pack-requires : tie.Need-pack-requires
-pack-requires c κs = search needs
-
-enum-known-j : tie.Need-enum-known-j
-enum-known-j c = search needs
-
 pack-requires-2 : tie.Need-pack-requires-2
 pack-requires-2 c κs = omega (arith, rw (c .before .j .given .1) at (c .before .before .before .pre))
 
-enum-known-j-2 : tie.Need-enum-known-j-2
-enum-known-j-2 c = search needs
-
 pack-requires-3 : tie.Need-pack-requires-3
 pack-requires-3 c κs = omega (arith, rw (c .before .j2 .given .1) at (c .before .before .before .pre))
-
-enum-known-j-3 : tie.Need-enum-known-j-3
-enum-known-j-3 c = search needs
 
 pack-requires-4 : tie.Need-pack-requires-4
 pack-requires-4 c κs = omega (arith, rw (c .before .j3 .given .1) at (c .before .before .before .pre))
@@ -51,13 +36,13 @@ pub judged-bits-spec : {M : Type 1} → statement M
 judged-bits-spec =
     tie.close
     (tie.spec
-    enum-told
-    pack-requires
-    enum-known-j
+    (search needs)
+    (search needs)
+    (search needs)
     pack-requires-2
-    enum-known-j-2
+    (search needs)
     pack-requires-3
-    enum-known-j-3
+    (search needs)
     pack-requires-4
     returns
     returns-2

@@ -8,9 +8,6 @@ use borrow.Author.Needs.{needs}
 use Rattle.campaign.proofs.order_bits.Statement.{statement}
 use Rattle.campaign.proofs.order_bits.Tie as tie
 
-enum-known-o : tie.Need-enum-known-o
-enum-known-o c = search needs
-
 add-pack : tie.Need-add-pack
 unfolding orderPlace
 add-pack c = omega (arith, rw (c .before .o .given .1) at (c .before .before .before .pre))
@@ -19,9 +16,6 @@ pack-requires : tie.Need-pack-requires
 unfolding orderPlace
 pack-requires c κs = omega (arith, rw (c .before .o .given .1) at (c .before .before .before .pre))
 
-enum-known-o-2 : tie.Need-enum-known-o-2
-enum-known-o-2 c = search needs
-
 add-pack-2 : tie.Need-add-pack-2
 unfolding orderPlace
 add-pack-2 c = omega (arith, rw (c .before .o2 .given .1) at (c .before .before .before .pre))
@@ -29,27 +23,6 @@ add-pack-2 c = omega (arith, rw (c .before .o2 .given .1) at (c .before .before 
 pack-requires-2 : tie.Need-pack-requires-2
 unfolding orderPlace
 pack-requires-2 c κs = omega (arith, rw (c .before .o2 .given .1) at (c .before .before .before .pre))
-
-enum-told : tie.Need-enum-told
-enum-told c = search needs
-
-pack-requires-3 : tie.Need-pack-requires-3
-pack-requires-3 c κs = search needs
-
-enum-known-o-3 : tie.Need-enum-known-o-3
-enum-known-o-3 c = search needs
-
-cast-pack : tie.Need-cast-pack
-cast-pack c = search needs
-
-pack-requires-4 : tie.Need-pack-requires-4
-pack-requires-4 c κs = search needs
-
-enum-told-2 : tie.Need-enum-told-2
-enum-told-2 c = search needs
-
-pack-requires-5 : tie.Need-pack-requires-5
-pack-requires-5 c κs = search needs
 
 returns : tie.Need-returns
 unfolding orderBits
@@ -75,19 +48,19 @@ pub order-bits-spec : {M : Type 1} → statement M
 order-bits-spec =
     tie.close
     (tie.spec
-    enum-known-o
+    (search needs)
     add-pack
     pack-requires
-    enum-known-o-2
+    (search needs)
     add-pack-2
     pack-requires-2
-    enum-told
-    pack-requires-3
-    enum-known-o-3
-    cast-pack
-    pack-requires-4
-    enum-told-2
-    pack-requires-5
+    (search needs)
+    (search needs)
+    (search needs)
+    (search needs)
+    (search needs)
+    (search needs)
+    (search needs)
     returns
     returns-2
     returns-3

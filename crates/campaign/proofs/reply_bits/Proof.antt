@@ -15,9 +15,6 @@ returns : tie.Need-returns
 unfolding replyBits
 returns c = rw (c .before .if1 .taken) (c .pack .ensures)
 
-place-9-requires : tie.Need-place-9-requires
-place-9-requires c κs = search needs
-
 pack-requires-2 : tie.Need-pack-requires-2
 pack-requires-2 c κs = omega (arith, small-9 (c .before .before .args .b), c .place-9 .ensures)
 
@@ -27,4 +24,4 @@ returns-2 c = rw (c .before .before .if1 .left) (c .pack2 .ensures ∙ ap (pack 
 
 pub reply-bits-spec : {M : Type 1} → statement M
 reply-bits-spec =
-    tie.close (tie.spec pack-requires returns place-9-requires pack-requires-2 returns-2)
+    tie.close (tie.spec pack-requires returns (search needs) pack-requires-2 returns-2)

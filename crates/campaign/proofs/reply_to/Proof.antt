@@ -8,14 +8,8 @@ use Rattle.campaign.proofs.reply_to.Tie as tie
 returns : tie.Need-returns
 returns c = reply-none _ _ _ _ (c .if1 .taken)
 
-sub-b : tie.Need-sub-b
-sub-b c = search needs
-
-reply-requires : tie.Need-reply-requires
-reply-requires c κs = search needs
-
 returns-2 : tie.Need-returns-2
 returns-2 c = reply-some _ _ _ _ _ (c .before .if1 .left) (c .reply .ensures)
 
 pub reply-to-spec : {M : Type 1} → statement M
-reply-to-spec = tie.close (tie.spec returns sub-b reply-requires returns-2)
+reply-to-spec = tie.close (tie.spec returns (search needs) (search needs) returns-2)

@@ -8,10 +8,10 @@ use Rattle.verdict.proofs.first_stranding.Statement.{statement}
 use Rattle.verdict.proofs.first_stranding.Tie as tie
 
 abbrev Inv-loop : tie.InvT-loop
-Inv-loop before beyond way firm exposed n a k x₀ x = (x ≤ n) × So-far (stranding (net n a way before firm exposed) (suc k)) x
+Inv-loop before reach apart way firm exposed n a k x₀ x = (x ≤ n) × So-far (stranding (net n a way before firm exposed) (suc k)) x
 
 abbrev μ-loop : tie.MeasureT-loop
-μ-loop before beyond way firm exposed n a k x₀ x = n - x
+μ-loop before reach apart way firm exposed n a k x₀ x = n - x
 
 loop-holds : tie.Need-loop-holds Inv-loop μ-loop
 loop-holds c = (omega arith, so-far-none _)

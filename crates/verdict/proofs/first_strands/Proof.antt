@@ -8,10 +8,10 @@ use Rattle.verdict.proofs.first_strands.Statement.{statement}
 use Rattle.verdict.proofs.first_strands.Tie as tie
 
 abbrev Inv-loop : tie.InvT-loop
-Inv-loop before beyond way firm exposed n a k₀ k = (k ≤ a) × So-far (strands (net n a way before firm exposed)) k
+Inv-loop before reach apart way firm exposed n a k₀ k = (k ≤ a) × So-far (strands (net n a way before firm exposed)) k
 
 abbrev μ-loop : tie.MeasureT-loop
-μ-loop before beyond way firm exposed n a k₀ k = a - k
+μ-loop before reach apart way firm exposed n a k₀ k = a - k
 
 loop-holds : tie.Need-loop-holds Inv-loop μ-loop
 loop-holds c = (omega arith, so-far-none _)

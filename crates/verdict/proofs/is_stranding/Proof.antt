@@ -11,21 +11,17 @@ returns c =
 
 returns-2 : tie.Need-returns-2
 returns-2 c =
-    let m = c .before in
-    let b = m .before .before in
-    let s = b .before .before .before .before in
+    let s = c .before .before .before .before .before in
     nothing-stays (net (s .args .n) (s .args .a) (s .args .way .now) (s .args .before .now) (s .args .firm) (s .args .exposed)) (s .args .k) (s .args .x)
-    (s .pre .1) (s .pre .4) (s .args .beyond .now) (s .pre .0) _ (b .all-below .ensures) _ (m .minus .ensures) (c .if2 .taken)
+    (s .pre .4) (s .args .reach .now) (s .args .apart .now) (s .pre .0) (c .if2 .taken)
 
 returns-3 : tie.Need-returns-3
 returns-3 c =
     let e2 = c .before .before .before in
-    let m = e2 .before in
-    let b = m .before .before in
-    let e1 = b .before in
+    let e1 = e2 .before .before in
     let s = e1 .before .before .before in
     sheltered (net (s .args .n) (s .args .a) (s .args .way .now) (s .args .before .now) (s .args .firm) (s .args .exposed)) (s .args .k) (s .args .x)
-    (s .pre .1) (s .pre .4) (s .args .beyond .now) (s .pre .0) _ (b .all-below .ensures) _ (m .minus .ensures)
+    (s .pre .4) (s .args .reach .now) (s .args .apart .now) (s .pre .0)
     _ (e1 .before .has .ensures) (e1 .if1 .left) (e2 .if2 .left) _ (c .before .leading .ensures) _ (c .is-sheltered .ensures)
 
 pub is-stranding-spec : {M : Type 1} → statement M
@@ -36,8 +32,6 @@ is-stranding-spec =
     (search needs)
     (search needs)
     returns
-    (search needs)
-    (search needs)
     (search needs)
     (search needs)
     returns-2

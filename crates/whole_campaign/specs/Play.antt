@@ -12,8 +12,8 @@ use Rattle.run.specs.State.{start}
 use Rattle.run.specs.Bytes.{bytesOf}
 use Rattle.guarantee.specs.Answers.{pack}
 use Rattle.guarantee.specs.Machine.{Asked, nextOrder, replied}
 use Rattle.campaign.specs.Calls.{sheetPasses, checkCall}
-use Rattle.campaign.specs.Lists.{answersOn, statesOn}
+use Rattle.whole_campaign.specs.Lists.{answersOn, statesOn}
 
 -- 32 bits at a place, high byte first, and as bytes
 unfoldable pub wordAt : List ℕ → ℕ → ℕ

@@ -1,4 +1,4 @@
--- `campaign::play` meets its contract.
+-- `whole_campaign::play` meets its contract.
 -- Assumes nothing.
 use mathlib.Core.List.{List}
 use native.Mathlib.Nat.{sub-zero}
@@ -8,11 +8,11 @@ use native.Mathlib.Omega.{arith}
 use Prim.Native.Nat.{ℕ, _*_, _-_, _≤_, _/_}
 use lib.ListN.{length}
 use lib.Seq.{sets}
-use Rattle.campaign.specs.Play.{asksFrom, asksIn, recordOf}
-use Rattle.campaign.proofs.Playing.{rest, play-turn, play-end, refused-answer, no-room, started-is, played}
-use Rattle.campaign.proofs.Whole.{from-start}
-use Rattle.campaign.proofs.play.Statement.{statement}
-use Rattle.campaign.proofs.play.Tie as tie
+use Rattle.whole_campaign.specs.Play.{asksFrom, asksIn, recordOf}
+use Rattle.whole_campaign.proofs.Playing.{rest, play-turn, play-end, refused-answer, no-room, started-is, played}
+use Rattle.whole_campaign.proofs.Whole.{from-start}
+use Rattle.whole_campaign.proofs.play.Statement.{statement}
+use Rattle.whole_campaign.proofs.play.Tie as tie
 
 abbrev Inv-loop : tie.InvT-loop
 Inv-loop sheet calls log₀ state₀ answer count i₀ log state i = (i ≤ count) × (length log ≡ length log₀) × (length state ≡ 65) × (sets log (69 * i) (rest sheet calls count i state) ≡ sets log₀ 0 (recordOf sheet state₀ (asksFrom count 0 calls)))
@@ -20,50 +20,17 @@ Inv-loop sheet calls log₀ state₀ answer count i₀ log state i = (i ≤ coun
 abbrev μ-loop : tie.MeasureT-loop
 μ-loop sheet calls log₀ state₀ answer count i₀ log state i = count - i
 
-slice-aggregate-campaign-start : tie.Need-slice-aggregate-campaign-start Inv-loop μ-loop
-slice-aggregate-campaign-start c = omega arith
-
-campaign-start-requires : tie.Need-campaign-start-requires Inv-loop μ-loop
-campaign-start-requires c κs = omega arith
-
 returns : tie.Need-returns Inv-loop μ-loop
 returns c = let r = refused-answer _ _ refl _ (c .before .before .campaign-start .ensures .0) (c .if1 .taken) _ _ in (r .0, (r .1, λ e. from-start _ e _))
 
-pack-requires : tie.Need-pack-requires Inv-loop μ-loop
-pack-requires c κs = omega arith
-
 returns-2 : tie.Need-returns-2 Inv-loop μ-loop
-returns-2 c = let r = no-room _ _ refl _ (c .before .before .before .before .campaign-start .ensures .0) (c .before .before .if1 .left) _ _ (c .before .if2 .taken) _ (c .pack .ensures) in (r .0, (r .1, λ e. from-start _ e _))
+returns-2 c = let r = no-room _ _ refl _ (c .before .before .before .before .campaign-start .ensures .0) (c .before .before .if1 .left) _ _ (c .before .if2 .taken) _ (c .too-short .ensures) in (r .0, (r .1, λ e. from-start _ e _))
 
 loop-holds : tie.Need-loop-holds Inv-loop μ-loop
 loop-holds c = (omega arith, refl, search needs, simp sub-zero refl)
 
-slice-aggregate-make-call : tie.Need-slice-aggregate-make-call Inv-loop μ-loop
-slice-aggregate-make-call c = omega arith
-
-make-call-requires : tie.Need-make-call-requires Inv-loop μ-loop
-make-call-requires c κs = omega arith
-
-mul-write-answer : tie.Need-mul-write-answer Inv-loop μ-loop
-mul-write-answer c = omega arith
-
-slice-aggregate-write-answer : tie.Need-slice-aggregate-write-answer Inv-loop μ-loop
-slice-aggregate-write-answer c = omega arith
-
-write-answer-requires : tie.Need-write-answer-requires Inv-loop μ-loop
-write-answer-requires c κs = omega arith
-
-add-i : tie.Need-add-i Inv-loop μ-loop
-add-i c = omega arith
-
-loop-less : tie.Need-loop-less Inv-loop μ-loop
-loop-less c = omega arith
-
 loop-again : tie.Need-loop-again Inv-loop μ-loop
 loop-again c = (omega arith, search needs, search needs, play-turn _ _ _ _ _ _ _ _ _ _ (omega arith) (search needs) (c .before .before .before .before .before .before .make-call .ensures .0) (c .before .before .before .before .before .before .make-call .ensures .1) (c .before .before .write-answer .ensures) (c .before .before .before .before .before .before .before .before .before .loop .inv .3))
-
-same-length : tie.Need-same-length Inv-loop μ-loop
-same-length c = search needs
 
 returns-3 : tie.Need-returns-3 Inv-loop μ-loop
 unfolding asksIn
@@ -82,19 +49,19 @@ play-spec =
     (tie.spec
     Inv-loop
     μ-loop
-    slice-aggregate-campaign-start
-    campaign-start-requires
+    (omega arith)
+    (omega arith)
     returns
-    pack-requires
+    (omega arith)
     returns-2
     loop-holds
-    slice-aggregate-make-call
-    make-call-requires
-    mul-write-answer
-    slice-aggregate-write-answer
-    write-answer-requires
-    add-i
-    loop-less
+    (omega arith)
+    (omega arith)
+    (omega arith)
+    (omega arith)
+    (omega arith)
+    (omega arith)
+    (omega arith)
     loop-again
-    same-length
+    (search needs)
     returns-3)

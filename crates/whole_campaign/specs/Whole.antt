@@ -1,6 +1,6 @@
--- The whole campaign: demand 3 and semi-atomicity of every list of calls of next order and reply on bytes.
--- The sheet s passes, start has been accepted with it and left the state bs; then the list qs is made, in any mixture,
--- the replies with any letter and any booking.
+-- Demand 3, on the code's own calls: what holds of a whole campaign, and that it is semi-atomic.
+-- The sheet s passes, start has been accepted with it and left the state bs; then the list qs of next orders and replies is made, in any
+-- mixture, the replies with any letter and any booking. askedCall and askedLeaves are what the contracts of the calls for C say.
 -- Assumes nothing.
 use mathlib.Core.Path.{_≡_}
 use mathlib.Core.Bool.{true}
@@ -12,12 +12,11 @@ use Rattle.sheet.specs.Sheet.{waysPlace, sheetOf}
 use Rattle.sheet.specs.declared.Sheet.{Sheet}
 use Rattle.run.specs.State.{start}
 use Rattle.run.specs.Bytes.{bytesOf}
-use Rattle.guarantee.specs.Answers.{pack}
 use Rattle.guarantee.specs.Machine.{Asked, nextOrder, machineAnswers, machineStates}
 use Rattle.guarantee.specs.Counted.{ends, waySizes}
 use Rattle.guarantee.specs.Demand.{Demand3, SemiAtomic}
-use Rattle.campaign.specs.Calls.{networkIn, startCall, startLeaves, askedCall}
-use Rattle.campaign.specs.Lists.{answersOn, statesOn, leftOn}
+use Rattle.campaign.specs.Calls.{networkIn, askedCall}
+use Rattle.whole_campaign.specs.Lists.{answersOn, statesOn, leftOn}
 
 pub record WholeCampaign (s bs : List ℕ) (qs : List Asked) : Type 0 where
   -- each call's 32 bits are the plain machine's, which is fed with the sheet and the list's calls alone

@@ -22,11 +22,11 @@ use Rattle.run.specs.State.{start}
 use Rattle.run.specs.Bytes.{bytesOf}
 use Rattle.guarantee.specs.Answers.{pack, checkBits}
 use Rattle.guarantee.specs.Machine.{Asked, nextOrder, replied}
 use Rattle.campaign.specs.Calls.{networkIn, passes, sheetPasses, judgedBits, checkCall, startCall, startLeaves, askedCall, askedLeaves}
-use Rattle.campaign.specs.Lists.{answersOn, statesOn}
-use Rattle.campaign.specs.Play.{wordAt, wordText, askAt, asksFrom, asksIn, recorded, recordOf, roomy, playCall, playLeaves}
+use Rattle.whole_campaign.specs.Lists.{answersOn, statesOn}
+use Rattle.whole_campaign.specs.Play.{wordAt, wordText, askAt, asksFrom, asksIn, recorded, recordOf, roomy, playCall, playLeaves}
 use Rattle.campaign.proofs.Places.{sheet-small, verdict-small}
 use Rattle.campaign.proofs.Exits.{fine-bounds}
 
 -- ---- a call by its bytes
 

@@ -22,9 +22,9 @@ use Rattle.guarantee.specs.Calls.{callBits, callBytes, answers, states, left, a
 use Rattle.guarantee.specs.Counted.{ends, waySize, waySizes}
 use Rattle.guarantee.specs.Guarantee.{Guarantee}
 use Rattle.guarantee.proofs.Plans.{plan-campaign}
 use Rattle.campaign.specs.Calls.{networkIn, passes, sheetPasses, startLeaves, askedCall, askedLeaves}
-use Rattle.campaign.specs.Lists.{answersOn, statesOn, leftOn}
-use Rattle.campaign.specs.Whole.{WholeCampaign}
+use Rattle.whole_campaign.specs.Lists.{answersOn, statesOn, leftOn}
+use Rattle.whole_campaign.specs.Whole.{WholeCampaign}
 
 module _ (s : List ℕ) (e : sheetPasses s ≡ true) where
   -- with a sheet that passes, a call is the call on its network
