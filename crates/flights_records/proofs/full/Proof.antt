@@ -1,10 +1,12 @@
+-- `flights_records::full` meets its contract.
+-- Assumes nothing.
 use Prim.Native.Nat.{_-_}
 use mathlib.Core.Path.{_≡_, refl}
 use native.Mathlib.Omega.{arith}
 use lib.ListN.{length}
 use borrow.Author.Needs.{needs}
-use Rattle.flights.proofs.full.Statement.{statement}
-use Rattle.flights.proofs.full.Tie as tie
+use Rattle.flights_records.proofs.full.Statement.{statement}
+use Rattle.flights_records.proofs.full.Tie as tie
 
 abbrev Inv-loop : tie.InvT-loop
 Inv-loop m a from₀ to₀ i₀ from to i = (length from ≡ 512) × (length to ≡ 512)
