@@ -4,11 +4,11 @@
 use mathlib.Core.Path.{_≡_, refl, sym, _∙_}
 use mathlib.Core.Logic.{_≢_, _⊎_, inl, inr}
 use mathlib.Core.Bool.{Bool, true, false, not, _&&_, _||_, cond}
-use Prim.Native.Nat.{ℕ, suc, _≤_, _<_}
-use native.Mathlib.Nat.{le-of-suc-le-suc, eq-or-lt-of-le}
+use Prim.Native.Nat.{ℕ, suc, _≤_, _<_, zero}
+use native.Mathlib.Nat.{le-of-suc-le-suc, eq-or-lt-of-le, not-suc-le-zero}
 use native.Mathlib.Omega.{arith}
-use lib.Dec.{ltb}
-use borrow.Author.Tests.{ltb-true, ltb-false}
+use lib.Dec.{eqb, ltb}
+use borrow.Author.Tests.{ltb-true, ltb-false, not-true, not-false}
 use native.Mathlib.Decide.{ℕ-discrete}
 use Rattle.bounded.specs.Bounded.{imp, one}
 
@@ -41,6 +41,12 @@ split? i j = elim (which (ltb i j)) [ inl e ↦ inl (ltb-true i j e) | inr e ↦
 pub last? : {i n : ℕ} → i < suc n → (i ≡ n) ⊎ (i < n)
 last? h = eq-or-lt-of-le (le-of-suc-le-suc h)
 
+-- a digit below 2 is 0 or 1
+pub binary : {x : ℕ} → x < 2 → (x ≡ 0) ⊎ (x ≡ 1)
+binary {x = zero} h = inl refl
+binary {x = suc zero} h = inr refl
+binary {x = suc (suc x)} h = absurd (not-suc-le-zero (le-of-suc-le-suc (le-of-suc-le-suc h)))
+
 -- two tests that are true together are equal
 pub same-test : (a b : Bool) → (a ≡ true → b ≡ true) → (b ≡ true → a ≡ true) → a ≡ b
 same-test true b f g = sym (f refl)
@@ -54,6 +60,13 @@ by-cond P {t} {a} {b} p q = go t refl
     go : (z : Bool) → t ≡ z → P (cond z a b)
     go true e = p e
     go false e = q e
+
+-- what `if t { a } else { b }` gives on each side
+pub cond-on : {A : Type 0} (t : Bool) (a b : A) → t ≡ true → a ≡ cond t a b
+cond-on t a b e = rw e
+
+pub cond-off : {A : Type 0} (t : Bool) (a b : A) → t ≡ false → b ≡ cond t a b
+cond-off t a b e = rw e
 
 -- what a call gave, and how the branch on it went
 pub got : {x a v : Bool} → x ≡ a → x ≡ v → a ≡ v
@@ -69,13 +82,9 @@ pub and-r : (a b : Bool) → a && b ≡ true → b ≡ true
 and-r true b e = e
 and-r false b e = cc
 
-pub and-i : (a b : Bool) → a ≡ true → b ≡ true → a && b ≡ true
-and-i a b p q = cc
-
--- the same, infix
 infixr 20 _&_
 pub _&_ : {a b : Bool} → a ≡ true → b ≡ true → a && b ≡ true
-_&_ {a} {b} p q = and-i a b p q
+p & q = cc
 
 pub and-no-l : (a b : Bool) → a ≡ false → a && b ≡ false
 and-no-l a b e = cc
@@ -92,6 +101,10 @@ pub and-swap : (a b : Bool) → a && b ≡ b && a
 and-swap true b = sym (and-true b)
 and-swap false b = sym (and-no-r b false refl)
 
+pub and-assoc : (a b c : Bool) → (a && b) && c ≡ a && (b && c)
+and-assoc true b c = refl
+and-assoc false b c = refl
+
 -- ---- or
 
 pub or-cases : (a b : Bool) → a || b ≡ true → (a ≡ true) ⊎ (b ≡ true)
@@ -105,9 +118,6 @@ pub or-r : (a b : Bool) → b ≡ true → a || b ≡ true
 or-r true b p = refl
 or-r false b p = p
 
-pub or-none : (a b : Bool) → a ≡ false → b ≡ false → a || b ≡ false
-or-none a b p q = cc
-
 pub or-false : (a : Bool) → a || false ≡ a
 or-false true = refl
 or-false false = refl
@@ -118,13 +128,9 @@ or-swap false b = sym (or-false b)
 
 -- ---- not, and where
 
-pub not-t : (b : Bool) → not b ≡ true → b ≡ false
-not-t true e = cc
-not-t false e = refl
-
-pub not-f : (b : Bool) → not b ≡ false → b ≡ true
-not-f true e = refl
-not-f false e = cc
+-- past `if !x { return .. }`, where the call x gave a
+pub went : {x a : Bool} → x ≡ a → not x ≡ false → a ≡ true
+went {x} p q = sym p ∙ not-false x q
 
 pub not-i : (b : Bool) → b ≡ false → not b ≡ true
 not-i b e = cc
@@ -136,33 +142,42 @@ pub imp-i : (a b : Bool) → (a ≡ true → b ≡ true) → imp a b ≡ true
 imp-i true b h = h refl
 imp-i false b h = refl
 
+pub or-imp : (a b : Bool) → a || b ≡ imp (not a) (not (not b))
+or-imp true true = refl
+or-imp true false = refl
+or-imp false true = refl
+or-imp false false = refl
+
+pub one-test : (b : Bool) → eqb (one b) 1 ≡ b
+one-test true = refl
+one-test false = refl
+
 pub one-le : (b : Bool) → one b ≤ 1
 one-le true = omega arith
 one-le false = omega arith
 
 -- ---- tests as code runs them: the answer is a where it decides, and b where it does not
 
-pub and-stop : (a b : Bool) → a ≡ false → a ≡ a && b
-and-stop a b e = cc
-
 pub and-go : (a b : Bool) → a ≡ true → b ≡ a && b
 and-go a b e = cc
-
-pub or-stop : (a b : Bool) → a ≡ true → a ≡ a || b
-or-stop a b e = cc
 
 pub or-go : (a b : Bool) → a ≡ false → b ≡ a || b
 or-go a b e = cc
 
--- `if a { b } else { false }`, `if a { b } else { true }`, where the call x gave a
+-- `if a { b } else { false }`, where the call x gave a
 pub and-on : (x a b : Bool) → x ≡ a → x ≡ true → b ≡ a && b
 and-on x a b p q = cc
 
 pub and-off : (x a b : Bool) → x ≡ a → x ≡ false → false ≡ a && b
 and-off x a b p q = cc
 
-pub imp-on : (x a b : Bool) → x ≡ a → x ≡ true → b ≡ imp a b
-imp-on x a b p q = cc
+-- ---- three tests, one after the other, as code runs them: x, y and z are what the calls gave
 
-pub imp-off : (x a b : Bool) → x ≡ a → x ≡ false → true ≡ imp a b
-imp-off x a b p q = cc
+pub fails-first : (a b c x : Bool) → x ≡ a → not x ≡ true → false ≡ a && (b && c)
+fails-first a b c x e q = rw (← e, not-true x q)
+
+pub fails-second : (a b c x y : Bool) → x ≡ a → not x ≡ false → y ≡ b → not y ≡ true → false ≡ a && (b && c)
+fails-second a b c x y e q f r = rw (← e, ← f, not-false x q, not-true y r)
+
+pub as-third : (a b c x y z : Bool) → x ≡ a → not x ≡ false → y ≡ b → not y ≡ false → z ≡ c → z ≡ a && (b && c)
+as-third a b c x y z e q f r g = rw (← e, ← f, ← g, not-false x q, not-false y r)

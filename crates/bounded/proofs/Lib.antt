@@ -5,3 +5,5 @@ pub mod Sums
 pub mod Lists
 pub mod Loops
 pub mod Extreme
+pub mod Filled
+pub mod Arrays

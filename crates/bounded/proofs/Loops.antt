@@ -3,13 +3,13 @@
 -- x is what the call gave that the loop tests, with the call's promise `x ≡ f b`.
 -- Assumes nothing.
 use mathlib.Core.Path.{_≡_, sym, _∙_}
-use mathlib.Core.Logic.{inl, inr}
-use mathlib.Core.Bool.{Bool, true, false}
+use mathlib.Core.Bool.{Bool, true, false, not}
 use Prim.Native.Nat.{ℕ, _+_, _≤_, _<_}
-use native.Mathlib.Nat.{not-suc-le-zero}
 use native.Mathlib.Omega.{arith}
+use borrow.Author.Count.{below-none, below-more}
+use borrow.Author.Tests.{not-true, not-false}
 use Rattle.bounded.specs.Bounded.{any, all, first}
-use Rattle.bounded.proofs.Bools.{clash, off, same?}
+use Rattle.bounded.proofs.Bools.{clash, off}
 use Rattle.bounded.proofs.Tests.{any-i, any-o, all-i, all-e}
 use Rattle.bounded.proofs.First.{first-is}
 
@@ -19,10 +19,10 @@ abbrev pub So-far : (ℕ → Bool) → ℕ → Type 0
 So-far f b = (k : ℕ) → k < b → f k ≡ false
 
 pub so-far-none : (f : ℕ → Bool) → So-far f 0
-so-far-none f k h = absurd (not-suc-le-zero h)
+so-far-none f = below-none (λ k. f k ≡ false)
 
 pub so-far-more : (f : ℕ → Bool) (b : ℕ) → So-far f b → f b ≡ false → So-far f (b + 1)
-so-far-more f b s e k h = elim (same? k b) [ inl p ↦ rw p e | inr d ↦ s k (omega arith) ]
+so-far-more f b = below-more (λ k. f k ≡ false) b
 
 pub so-far-call : (f : ℕ → Bool) (b : ℕ) → So-far f b → (x : Bool) → x ≡ f b → x ≡ false → So-far f (b + 1)
 so-far-call f b s x p q = so-far-more f b s (sym p ∙ q)
@@ -48,16 +48,23 @@ abbrev pub All-far : (ℕ → Bool) → ℕ → Type 0
 All-far f b = (k : ℕ) → k < b → f k ≡ true
 
 pub all-far-none : (f : ℕ → Bool) → All-far f 0
-all-far-none f k h = absurd (not-suc-le-zero h)
+all-far-none f = below-none (λ k. f k ≡ true)
 
 pub all-far-more : (f : ℕ → Bool) (b : ℕ) → All-far f b → f b ≡ true → All-far f (b + 1)
-all-far-more f b s e k h = elim (same? k b) [ inl p ↦ rw p e | inr d ↦ s k (omega arith) ]
+all-far-more f b = below-more (λ k. f k ≡ true) b
 
 pub all-far-call : (f : ℕ → Bool) (b : ℕ) → All-far f b → (x : Bool) → x ≡ f b → x ≡ true → All-far f (b + 1)
 all-far-call f b s x p q = all-far-more f b s (sym p ∙ q)
 
 pub all-call : (f : ℕ → Bool) (n b : ℕ) → b < n → (x : Bool) → x ≡ f b → x ≡ false → false ≡ all f n
 all-call f n b h x p q = sym (off (all f n) (λ e. clash (f b) (all-e f n e b h) (sym p ∙ q)))
+
+-- a loop of `if !test(..) { return false; }`: where the test fails, and one turn where it holds
+pub all-out : (f : ℕ → Bool) (n b : ℕ) (x : Bool) → b < n → x ≡ f b → not x ≡ true → false ≡ all f n
+all-out f n b x h e q = all-call f n b h x e (not-true x q)
+
+pub all-on : (f : ℕ → Bool) (b : ℕ) (x : Bool) → All-far f b → x ≡ f b → not x ≡ false → All-far f (b + 1)
+all-on f b x s e q = all-far-call f b s x e (not-false x q)
 
 pub all-over : (f : ℕ → Bool) (n b : ℕ) → All-far f b → n ≤ b → true ≡ all f n
 all-over f n b s h = sym (all-i f n (λ i l. s i (omega arith)))

@@ -1,13 +1,14 @@
 -- The laws of `sum` and `count`.
 -- Assumes nothing.
-use mathlib.Core.Path.{_≡_, refl, ap, ap₂, _∙_}
+use mathlib.Core.Path.{_≡_, refl}
 use mathlib.Core.Logic.{_≢_, inl, inr}
-use mathlib.Core.Bool.{Bool, true, false}
+use mathlib.Core.Bool.{Bool, true}
 use Prim.Native.Nat.{ℕ, zero, suc, _+_, _*_, _≤_, _<_}
-use native.Mathlib.Nat.{not-suc-le-zero, le-refl}
+use native.Mathlib.Nat.{not-suc-le-zero, le-refl, eq-or-lt-of-le, mul-suc}
 use native.Mathlib.Omega.{arith}
+use native.Mathlib.Numerals.{add-one}
 use Rattle.bounded.specs.Bounded.{one, sum, count}
-use Rattle.bounded.proofs.Bools.{which, last?, one-le}
+use Rattle.bounded.proofs.Bools.{last?, one-le}
 
 -- ---- sums
 
@@ -39,6 +40,16 @@ unfolding sum
 sum-zero f zero e = refl
 sum-zero f (suc n) e = omega (arith, sum-zero f n (λ i l. e i (omega arith)), e n (le-refl (suc n)))
 
+pub sum-upto : (f : ℕ → ℕ) (i n : ℕ) → i ≤ n → sum f i ≤ sum f n
+unfolding sum
+sum-upto f i zero h = let e : i ≡ 0 = omega arith in rw e (le-refl 0)
+sum-upto f i (suc n) h = elim (eq-or-lt-of-le h) [ inl e ↦ rw e (le-refl (sum f (suc n))) | inr l ↦ omega (arith, sum-upto f i n (omega arith)) ]
+
+pub sum-most : (f : ℕ → ℕ) (n a : ℕ) → ((k : ℕ) → k < a → f k ≤ n) → sum f a ≤ n * a
+unfolding sum
+sum-most f n zero h = omega arith
+sum-most f n (suc a) h = let p : n * suc a ≡ n * a + n = mul-suc n a in omega (arith, sum-most f n a (λ k l. h k (omega arith)), h a (le-refl (suc a)))
+
 -- one entry changes
 pub sum-one : (f g : ℕ → ℕ) (n x : ℕ) → x < n → ((i : ℕ) → i ≢ x → f i ≡ g i) → sum f n + g x ≡ sum g n + f x
 unfolding sum
@@ -56,15 +67,17 @@ unfolding count sum
 count-sum f zero = refl
 count-sum f (suc n) = omega (arith, count-sum f n)
 
-pub count-ext : (f g : ℕ → Bool) (n : ℕ) → ((i : ℕ) → i < n → f i ≡ g i) → count f n ≡ count g n
+pub count-suc : (f : ℕ → Bool) (n : ℕ) → count f (n + 1) ≡ count f n + one (f n)
 unfolding count
-count-ext f g zero h = refl
-count-ext f g (suc n) h = ap₂ (λ (a : ℕ) (b : Bool). a + one b) (count-ext f g n (λ i l. h i (omega arith))) (h n (le-refl (suc n)))
+count-suc f n = rw add-one
 
 pub count-le : (f : ℕ → Bool) (n : ℕ) → count f n ≤ n
 unfolding count
 count-le f zero = omega arith
 count-le f (suc n) = omega (arith, count-le f n, one-le (f n))
+
+pub count-upto : (f : ℕ → Bool) (i n : ℕ) → i ≤ n → count f i ≤ count f n
+count-upto f i n h = omega (arith, count-sum f i, count-sum f n, sum-upto (λ k. one (f k)) i n h)
 
 -- a member counts once: those below it are fewer than those below a larger bound
 pub count-lt : (f : ℕ → Bool) (n i : ℕ) → i < n → f i ≡ true → count f i < count f n
@@ -73,25 +86,4 @@ count-lt f zero i h e = absurd (not-suc-le-zero h)
 count-lt f (suc n) i h e = elim (last? h) [
   | inl p ↦ (let q : f n ≡ true = rw p at e in rw (p, q) (omega arith))
   | inr l ↦ omega (arith, count-lt f n i l e)
-]
-
-one-mono : (a b : Bool) → (a ≡ true → b ≡ true) → one a ≤ one b
-one-mono true b h = rw (h refl) (le-refl 1)
-one-mono false b h = omega arith
-
-pub count-mono : (f g : ℕ → Bool) (n : ℕ) → ((i : ℕ) → i < n → f i ≡ true → g i ≡ true) → count f n ≤ count g n
-unfolding count
-count-mono f g zero h = omega arith
-count-mono f g (suc n) h = omega (arith, count-mono f g n (λ i l. h i (omega arith)), one-mono (f n) (g n) (h n (le-refl (suc n))))
-
--- a part that lacks one is smaller
-pub count-less : (f g : ℕ → Bool) (n j : ℕ) → j < n → f j ≡ false → g j ≡ true → ((i : ℕ) → i < n → f i ≡ true → g i ≡ true) → count f n < count g n
-unfolding count
-count-less f g zero j h p q m = absurd (not-suc-le-zero h)
-count-less f g (suc n) j h p q m = elim (last? h) [
-  | inl e ↦
-      (let p′ : f n ≡ false = rw e at p in
-      let q′ : g n ≡ true = rw e at q in
-      rw (p′, q′) (omega (arith, count-mono f g n (λ i l. m i (omega arith)))))
-  | inr l ↦ omega (arith, count-less f g n j l p q (λ i k. m i (omega arith)), one-mono (f n) (g n) (m n (le-refl (suc n))))
 ]

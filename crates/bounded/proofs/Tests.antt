@@ -1,6 +1,6 @@
 -- The laws of `any` and `all`.
 -- Assumes nothing.
-use mathlib.Core.Path.{_≡_, refl, sym, ap₂}
+use mathlib.Core.Path.{_≡_, refl, ap₂}
 use mathlib.Core.Logic.{inl, inr}
 use mathlib.Core.Bool.{Bool, true, false, _&&_, _||_}
 use Prim.Native.Nat.{ℕ, zero, suc, _+_, _<_}
@@ -8,7 +8,7 @@ use native.Mathlib.Nat.{not-suc-le-zero, le-refl}
 use native.Mathlib.Numerals.{add-one}
 use native.Mathlib.Omega.{arith}
 use Rattle.bounded.specs.Bounded.{any, all}
-use Rattle.bounded.proofs.Bools.{which, clash, off, last?, and-l, and-r, and-i, or-cases, or-l, or-r}
+use Rattle.bounded.proofs.Bools.{which, clash, off, last?, and-l, and-r, or-cases, or-l, or-r, _&_}
 
 -- ---- some: i brings in, e takes out, n and o for none
 
@@ -45,7 +45,7 @@ any-ext f g (suc n) h = ap₂ (λ (a b : Bool). a || b) (any-ext f g n (λ i l. 
 pub all-i : (f : ℕ → Bool) (n : ℕ) → ((i : ℕ) → i < n → f i ≡ true) → all f n ≡ true
 unfolding all
 all-i f zero h = refl
-all-i f (suc n) h = and-i (all f n) (f n) (all-i f n (λ i l. h i (omega arith))) (h n (le-refl (suc n)))
+all-i f (suc n) h = all-i f n (λ i l. h i (omega arith)) & h n (le-refl (suc n))
 
 pub all-e : (f : ℕ → Bool) (n : ℕ) → all f n ≡ true → (i : ℕ) → i < n → f i ≡ true
 unfolding all
@@ -56,7 +56,7 @@ pub all-n : (f : ℕ → Bool) (n : ℕ) → all f n ≡ false → (i : ℕ) × 
 unfolding all
 all-n f zero e = clash true refl e
 all-n f (suc n) e = elim (which (f n)) [
-  | inl p ↦ (let r = all-n f n (off (all f n) (λ q. clash (all f n && f n) (and-i (all f n) (f n) q p) e)) in (r .0, omega arith, r .2))
+  | inl p ↦ (let r = all-n f n (off (all f n) (λ q. clash (all f n && f n) (q & p) e)) in (r .0, omega arith, r .2))
   | inr p ↦ (n, le-refl (suc n), p)
 ]
 

@@ -8,8 +8,8 @@ use Prim.Native.Nat.{ℕ, zero, suc, _-_, _≤_, _<_}
 use native.Mathlib.Omega.{arith}
 use lib.Dec.{leb}
 use lib.ListN.{length}
-use borrow.Author.Tests.{eq-eqb, ne-eqb, leb-true, le-ltb}
-use Rattle.bounded.proofs.Bools.{which, clash, split?, and-l, and-r, not-t, not-f}
+use borrow.Author.Tests.{eq-eqb, ne-eqb, leb-true, le-ltb, not-true, not-false}
+use Rattle.bounded.proofs.Bools.{which, clash, split?, and-l, and-r}
 use Rattle.plan.specs.Judging.{isFine}
 use Rattle.plan.specs.declared.Judged.{Judged}
 use Rattle.sheet.specs.Sheet.{sheetOf}
@@ -53,7 +53,7 @@ plan-bounds s e = (sheet-valid s e .counts .bookings, ends-of s e)
 
 -- a test of the sheet that was read, as code makes it
 pub fine-read : (s : List ℕ) (r : Sheet) (t : Bool) → r ≡ sheetOf s → t ≡ isFine (r .judged) → not t ≡ false → isFine (sheetOf s .judged) ≡ true
-fine-read s r t e f n = rw e at (sym f ∙ not-f t n)
+fine-read s r t e f n = rw e at (sym f ∙ not-false t n)
 
 -- ---- replies by number
 
@@ -85,7 +85,7 @@ module _ (s : List ℕ) where
   pub checked-refused : (j : Judged) (t : Bool) (x : ℕ) (g : Network) → j ≡ sheetOf s .judged → t ≡ isFine j → not t ≡ true → x ≡ judgedBits j → g ≡ noNetwork
       → _≡_ {A = Checked} (record { passes = false; bits = x; network = g }) (checkedOf s)
   unfolding checkedOf
-  checked-refused j t x g e f n q eg = let o : isFine j ≡ false = sym f ∙ not-t t n in rw (← e, o, q, eg)
+  checked-refused j t x g e f n q eg = let o : isFine j ≡ false = sym f ∙ not-true t n in rw (← e, o, q, eg)
 
   pub checked-read : (g : Network) (v : Verdict) (x : ℕ) (t : Bool) → isFine (sheetOf s .judged) ≡ true → g ≡ networkIn s → v ≡ check g → x ≡ checkBits v → t ≡ passes v
       → _≡_ {A = Checked} (record { passes = t; bits = x; network = g }) (checkedOf s)
@@ -114,7 +114,7 @@ module _ (s : List ℕ) where
     -- the sheet is refused
     module _ (n : not (c .passes) ≡ true) where
       fails : sheetPasses s ≡ false
-      fails = sym passes-is ∙ not-t (c .passes) n
+      fails = sym passes-is ∙ not-true (c .passes) n
 
       pub start-refused : (bs : List ℕ) → (c .bits ≡ startCall s bs) × (bs ≡ startLeaves s bs)
       unfolding startCall startLeaves
@@ -127,7 +127,7 @@ module _ (s : List ℕ) where
     -- the sheet passes
     module _ (n : not (c .passes) ≡ false) where
       pub holds : sheetPasses s ≡ true
-      holds = sym passes-is ∙ not-f (c .passes) n
+      holds = sym passes-is ∙ not-false (c .passes) n
 
       pub reads : isFine (sheetOf s .judged) ≡ true
       unfolding sheetPasses
@@ -160,19 +160,19 @@ module _ (s : List ℕ) where
           pub asked-unsound : not t ≡ true → (x : ℕ) → x ≡ pack 0 11 0 → (x ≡ askedCall s bs q) × (bs ≡ askedLeaves s bs q)
           unfolding askedCall askedLeaves callBits callBytes soundBytes unsound
           asked-unsound m x p =
-              let o : sound (networkIn s) (runOf bs) ≡ false = sym sound-is ∙ not-t t m in
+              let o : sound (networkIn s) (runOf bs) ≡ false = sym sound-is ∙ not-true t m in
               (rw (holds, eq-eqb (length bs) 65 h, o) p, rw (holds, eq-eqb (length bs) 65 h, o) refl)
 
           pub asked-done : not t ≡ false → (x : ℕ) → x ≡ answer (c .network) r q → (bytes : List ℕ) → bytes ≡ bytesOf (after (c .network) r q) → (x ≡ askedCall s bs q) × (bytes ≡ askedLeaves s bs q)
           unfolding askedCall askedLeaves callBits callBytes soundBytes
           asked-done m x p bytes w =
-              let o : sound (networkIn s) (runOf bs) ≡ true = sym sound-is ∙ not-f t m in
+              let o : sound (networkIn s) (runOf bs) ≡ true = sym sound-is ∙ not-false t m in
               (rw (holds, eq-eqb (length bs) 65 h, o) (rw (er, network-is) at p), rw (holds, eq-eqb (length bs) 65 h, o) (rw (er, network-is) at w))
 
           -- the way of a sound state is one of the plan's
           pub way-small : not t ≡ false → r .way ≤ 16
           unfolding sound wayKnown
           way-small m =
-              let o : sound (c .network) r ≡ true = sym et ∙ not-f t m in
+              let o : sound (c .network) r ≡ true = sym et ∙ not-false t m in
               let k = and-l (wayKnown (c .network) r) _ (and-r (codesKnown r) _ o) in
               omega (arith, leb-true (r .way) (c .network .a) k, bounded .1)

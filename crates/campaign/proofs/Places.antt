@@ -12,7 +12,7 @@ use Rattle.bounded.specs.Bounded.{first}
 use Rattle.bounded.proofs.Bools.{by-cond, and-l}
 use Rattle.bounded.proofs.First.{first-least}
 use Rattle.sets.specs.Sets.{member}
-use Rattle.sets.proofs.Whole.{member-low}
+use Rattle.sets.proofs.Facts.{gather-e}
 use Rattle.plan.specs.Judging.{isFine, judgedPlace}
 use Rattle.plan.specs.declared.Plan.{Plan}
 use Rattle.plan.specs.declared.Judged.{Judged}
@@ -30,6 +30,7 @@ use Rattle.lines.specs.declared.Kinds.{Kinds}
 use Rattle.lines.specs.declared.Link.{Link}
 use Rattle.lines.specs.declared.Link.the-variants as L
 use Rattle.lines.specs.declared.Links.{Links}
+use Rattle.lines.proofs.RoundTrip.{head-limits}
 use Rattle.ways.specs.Way.{wayOf}
 use Rattle.ways.specs.Ways.{afterWay, waysOf, noWays}
 use Rattle.ways.specs.declared.Way.{Way}
@@ -37,7 +38,6 @@ use Rattle.ways.specs.declared.Way.the-variants as W
 use Rattle.ways.specs.declared.Ways.{Ways}
 use Rattle.sheet.specs.Sheet.{linksPlace, waysPlace, kindsIn, linksIn, waysIn, planOf, past, refusedOf, endOf, bodyOf, afterHead, sheetOf}
 use Rattle.sheet.specs.declared.Sheet.{Sheet}
-use Rattle.sheet.proofs.SheetLaws.{head-limits}
 use Rattle.plan.proofs.LimitLaws.{Limited}
 use Rattle.verdict.specs.declared.Network.{Network}
 use Rattle.verdict.specs.declared.Verdict.{Verdict}
@@ -176,8 +176,8 @@ verdict-small g hn ha = verdict-fits g hn ha .small
 module _ (g : Network) (r : Run) (few : g .n ≤ 64) (way : r .way < 256) where
   order-at : {t : Ordered} → NextCase g r t → orderPlace (t .order) < 65536
   unfolding orderPlace toReturn toRequest coded
-  order-at (gives x u e) = let l = member-low (is r 2) (g .n) x (and-l (member (held g r) x) _ e) in omega arith
-  order-at (asks x i e) = let l = member-low (is r 0) (g .n) x (and-l (member (free g r) x) _ e) in omega arith
+  order-at (gives x u e) = let l = gather-e (is r 2) (g .n) x (and-l (member (held g r) x) _ e) .0 in omega arith
+  order-at (asks x i e) = let l = gather-e (is r 0) (g .n) x (and-l (member (free g r) x) _ e) .0 in omega arith
   order-at (blocked e) = omega arith
   order-at (busy e) = omega arith
   order-at (pends e) = omega arith

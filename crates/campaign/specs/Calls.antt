@@ -1,7 +1,7 @@
 -- The four calls of the dispatcher on lent bytes: what each gives back, and what it leaves in the state.
 -- The sheet's refusals come first, then 11, then 9; a refused call leaves every byte as it was.
 -- Assumes nothing.
-use mathlib.Core.Bool.{Bool, true, false, _&&_, cond}
+use mathlib.Core.Bool.{Bool, false, _&&_, cond}
 use mathlib.Core.List.{List}
 use Prim.Native.Nat.{ℕ, suc}
 use lib.Dec.{eqb}
@@ -9,7 +9,6 @@ use lib.ListN.{length, replicate}
 use Rattle.plan.specs.Judging.{isFine, judgedRefusal, judgedPlace}
 use Rattle.plan.specs.declared.Judged.{Judged}
 use Rattle.sheet.specs.Sheet.{sheetOf}
-use Rattle.sheet.specs.declared.Sheet.{Sheet}
 use Rattle.verdict.specs.declared.Network.{Network}
 use Rattle.verdict.specs.declared.Verdict.{Verdict}
 use Rattle.verdict.specs.FromPlan.{networkOf}

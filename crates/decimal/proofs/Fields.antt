@@ -4,11 +4,11 @@ use Prim.Native.Nat.{ℕ, _+_, _^_, _<_}
 use mathlib.Core.Path.{_≡_, sym, ap, _∙_}
 use mathlib.Core.List.{List, _++_}
 use lib.ListN.{take, drop, take-append-drop}
-use lib.Seq.{drop-drop}
+use lib.Seq.{drop-drop, take-at}
 use Rattle.decimal.specs.Decimal.{columns, fieldAt, numberAt}
 use Rattle.decimal.specs.declared.Field.{Field}
 use Rattle.decimal.specs.declared.Field.the-variants.{Number, Fault}
-use Rattle.decimal.proofs.Laws.{Reads, read-written, value-written, columns-no-fault}
+use Rattle.decimal.proofs.Laws.{Reads, read-written, value-written, columns-no-fault, columns-length, written-read}
 
 module _ (w at : ℕ) (line : List ℕ) (f : Field) (e : f ≡ fieldAt w at line) where
   -- a line with a fault is no text that has the number's columns there
@@ -38,3 +38,13 @@ module _ (w at : ℕ) (line : List ℕ) (f : Field) (e : f ≡ fieldAt w at line
 pub number-in : (w at x : ℕ) (text : List ℕ) → x < 10 ^ w → take w (drop at text) ≡ columns w x → numberAt w at text ≡ x
 unfolding numberAt
 number-in w at x text h e = rw e (value-written w x h)
+
+-- a field in front of a text
+pub field-front : (w x : ℕ) (rest : List ℕ) → x < 10 ^ w → fieldAt w 0 (columns w x ++ rest) ≡ Number x
+unfolding fieldAt
+field-front w x rest h = rw (take-at (columns w x) rest w (columns-length w x)) (written-read w x h)
+
+-- the text of a field that was read
+pub field-text : (w at : ℕ) (line : List ℕ) (y : ℕ) → fieldAt w at line ≡ Number y → take w (drop at line) ≡ columns w y
+unfolding fieldAt
+field-text w at line y e = read-written w (take w (drop at line)) y e .text

@@ -12,8 +12,8 @@ use native.Mathlib.Omega.{arith}
 use lib.ListN.{length, getD, take, set, length-append, List·getD-append}
 use lib.Seq.{sets, take-suc, take-take, take-all, take-at, getD-take, getD-at}
 use lib.Dec.{eqb, leb}
-use borrow.Author.Tests.{eqb-true, eq-eqb, ne-eqb, le-leb, lt-leb}
-use Rattle.bounded.proofs.Bools.{clash, not-t, not-f, and-no-r, and-true, last?, split?}
+use borrow.Author.Tests.{eqb-true, eq-eqb, ne-eqb, le-leb, lt-leb, not-true, not-false}
+use Rattle.bounded.proofs.Bools.{clash, and-no-r, and-true, last?, split?}
 use Rattle.decimal.specs.Decimal.{column, columnsTo, columns, valueOf, sameBytes, fieldOf}
 use Rattle.decimal.specs.declared.Field.the-variants.{Number, Fault}
 use Rattle.decimal.proofs.Bytes.{same-refl, same-eq, same-ne}
@@ -169,13 +169,13 @@ module _ (w : ℕ) (s : List ℕ) (i x d : ℕ) (r : Bool) (n : length s ≡ w) 
   unfolding fieldOf columns
   fault-at other =
       sym (rw (same-ne s (columns w (valueOf w s)) (λ e.
-      clash r (k ∙ eq-eqb _ _ (each-column true w s (omega arith) (take-all w s (omega arith) ∙ e) i h ∙ rw (value-turn, add-one))) (not-t r other))))
+      clash r (k ∙ eq-eqb _ _ (each-column true w s (omega arith) (take-all w s (omega arith) ∙ e) i h ∙ rw (value-turn, add-one))) (not-true r other))))
 
   -- one byte more is its column
   pub column-read : take i s ≡ columnsTo (eqb i w) i x → not r ≡ false → take (i + 1) s ≡ columnsTo (eqb (i + 1) w) (i + 1) (x * 10 + d)
   unfolding columnsTo
   column-read t p =
-      let b : getD s i 0 ≡ column (eqb (i + 1) w) (x * 10 + d) = eqb-true _ _ (sym k ∙ not-f r p) in
+      let b : getD s i 0 ≡ column (eqb (i + 1) w) (x * 10 + d) = eqb-true _ _ (sym k ∙ not-false r p) in
       let o : eqb i w ≡ false = ne-eqb i w (λ z. omega arith) in
       let e : getD s i 0 ≡ column (eqb (i + 1) w) (x * 10 + getD s i 0 % 16) = b ∙ rw g in
       let q : (x * 10 + d) / 10 ≡ x = rw g (before-column (eqb (i + 1) w) (getD s i 0) x e) in

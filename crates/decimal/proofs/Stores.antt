@@ -1,13 +1,13 @@
 -- The laws of `sets`, bytes stored one after the other from a place on; what lies past the end is not stored.
 -- Assumes nothing.
 use Prim.Native.Nat.{ℕ, suc, _+_, _≤_, _<_}
-use mathlib.Core.Path.{_≡_, refl, ap, _∙_}
-use mathlib.Core.List.{List, [], _∷_, _++_, append-nil}
+use mathlib.Core.Path.{_≡_, refl, ap, _∙_, sym}
+use mathlib.Core.List.{List, [], _∷_, _++_}
 use native.Mathlib.Omega.{arith}
 use native.Mathlib.Nat.{add-zero}
 use native.Mathlib.Numerals.{add-one}
-use lib.ListN.{length, getD, take, drop, set, drop-of-length-le}
-use lib.Seq.{sets, sets-eq, set-comm, take-suc, length-take-le}
+use lib.ListN.{length, getD, take, set}
+use lib.Seq.{sets, set-comm, take-suc, length-take-le, length-sets}
 
 -- one text after another
 pub sets-append : (d : List ℕ) (i : ℕ) (a b : List ℕ) → sets d i (a ++ b) ≡ sets (sets d i a) (i + length a) b
@@ -32,9 +32,17 @@ sets-past d at (x ∷ a) j c h =
 pub sets-last : (d : List ℕ) (at : ℕ) (a : List ℕ) (c : ℕ) → sets d at (a ++ (c ∷ [])) ≡ sets (set d (at + length a) c) at a
 sets-last d at a c = sets-append d at a (c ∷ []) ∙ sets-past d at a (at + length a) c (omega arith)
 
--- a text as long as what it is stored in
-pub sets-whole : (d a : List ℕ) → length d ≡ length a → sets d 0 a ≡ a
-sets-whole d a e =
-    let z : 0 + length a ≡ length a = omega arith in
-    let n : drop (0 + length a) d ≡ [] = rw z (drop-of-length-le d {i = length a} (omega arith)) in
-    sets-eq a d 0 (omega arith) ∙ rw n (append-nil a)
+-- one piece more, as a writer stores it: a stands at at, b after it
+pub sets-next : (d x y : List ℕ) (at p : ℕ) (a b : List ℕ) → p ≡ at + length a → x ≡ sets d at a → y ≡ sets x p b → y ≡ sets d at (a ++ b)
+sets-next d x y at p a b q e f = f ∙ rw (e, q) (sym (sets-append d at a b))
+
+-- what was stored is the text that was to be stored
+pub sets-same : (d b text other : List ℕ) (n : ℕ) → text ≡ other → n ≡ length text → b ≡ sets d 0 text → (n ≡ length other) × (b ≡ sets d 0 other)
+sets-same d b text other n t e f = (rw (← t) e, rw (← t) f)
+
+-- the length that a writer gives counts bytes of its buffer
+pub sets-counted : (d b text : List ℕ) (n : ℕ) → length text ≤ length d → n ≡ length text → b ≡ sets d 0 text → (n ≤ length b) × (n ≡ length (take n b))
+sets-counted d b text n h e f =
+    let l : length b ≡ length d = rw f (length-sets d 0 text) in
+    let k : n ≤ length b = omega arith in
+    (k, sym (length-take-le n b k))

@@ -12,7 +12,7 @@ use Rattle.decimal.specs.Decimal.{columns, columnsTo, sameBytes, fieldAt, numbe
 use Rattle.decimal.specs.declared.Field.{Field}
 use Rattle.decimal.specs.declared.Field.the-variants.{Number, Fault}
 use Rattle.decimal.proofs.Bytes.{same-refl, same-eq, same-ne}
-use Rattle.decimal.proofs.Fields.{fault-in, number-is, number-small, field-then, number-in}
+use Rattle.decimal.proofs.Fields.{fault-in, number-is, field-then, number-in}
 use Rattle.drill_lines.specs.Printed.{numberText}
 use Rattle.drill_lines.specs.Replies.{isReply, replyOf}
 use Rattle.drill_lines.specs.declared.Reply.the-variants.{Given, Misformed}
@@ -40,9 +40,6 @@ module _ (line : List ℕ) where
   no-feed h = not-text (λ e. h (ap (λ (l : List ℕ). getD l 5 0) e))
 
 -- ---- of this form
-
-pub few : (line : List ℕ) (f : Field) (y : ℕ) → f ≡ fieldAt 4 1 line → f ≡ Number y → y < 10000
-few line f y e g = number-small 4 1 line f e y g
 
 pub given : (line : List ℕ) (f : Field) (y : ℕ) → length line ≡ 6 → f ≡ fieldAt 4 1 line → f ≡ Number y → getD line 5 0 ≡ 10
     → Given (getD line 0 0) y ≡ replyOf line

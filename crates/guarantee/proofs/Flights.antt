@@ -3,10 +3,10 @@
 use mathlib.Core.Path.{_≡_, refl}
 use mathlib.Core.List.{map}
 use Rattle.bounded.specs.Bounded.{any, all, seek, first, table}
-use Rattle.sets.specs.Sets.{member, gather, inserted, insert, kept, subsetOf, apart, disjointFrom}
+use Rattle.sets.specs.Sets.{member, gather, inserted, insert, kept, subsetOf, apart, disjointFrom, some}
 use Rattle.precedence.specs.Precedence.{joinedOf, throughAt, throughOf, closureTo, closureOf}
 use Rattle.verdict.specs.FromPlan.{ofKind, joins, linked, directAt, directOf, networkOf}
-use Rattle.verdict.specs.Network.{wayOf, inWay, before, pre, firm, exposed, some}
+use Rattle.verdict.specs.Network.{wayOf, inWay, before, pre, firm, exposed}
 use Rattle.verdict.specs.Check.{circular, gap, unclosed, usedBy, unused, sameWay, repeated, stays, staying, leadsTo, settledBy, safe, refuge, laterRefuge, stranding, strands, check, verdictNumber, verdictPlace}
 use Rattle.run.specs.State.{code, is, coded, start, lostIn, heldFirmAt, heldFirm, live, liveAt, firstLive}
 use Rattle.run.specs.Orders.{standsOn, needed, toReturn, ready, toRequest, ending, next}

@@ -5,12 +5,14 @@ use mathlib.Core.Logic.{_≢_, _⊎_, inl, inr}
 use mathlib.Core.Bool.{Bool, true, false, not, _&&_, _||_}
 use Prim.Native.Nat.{ℕ, _<_}
 use native.Mathlib.Omega.{arith}
-use Rattle.bounded.proofs.Bools.{clash, which, same?, off, and-l, and-r, _&_, not-t, not-i, or-cases, or-l, or-r}
+use borrow.Author.Tests.{not-true}
+use Rattle.bounded.proofs.Bools.{clash, which, same?, off, and-l, and-r, _&_, not-i, or-cases, or-l, or-r}
 use Rattle.bounded.proofs.Tests.{any-i, any-n, any-o}
 use Rattle.bounded.proofs.Extreme.{extreme}
-use Rattle.verdict.specs.Network.{inWay, before, pre, firm, returnable, some}
+use Rattle.sets.specs.Sets.{some}
+use Rattle.sets.proofs.Facts.{subset-e, subset-i}
+use Rattle.verdict.specs.Network.{inWay, before, pre, firm, returnable}
 use Rattle.verdict.specs.declared.Network.{Network}
-use Rattle.verdict.proofs.Members.{subset-i, subset-e}
 use Rattle.verdict.proofs.Facts.{Passes}
 use Rattle.run.specs.State.{code, is, coded, held, put, lostIn}
 use Rattle.run.specs.Orders.{standsOn, needed, toReturn, ready, toRequest}
@@ -48,7 +50,7 @@ module _ (g : Network) (ok : Passes g) (r : Run) (c : Core g r) where
         any-o (standsOn g r m) (g .n) (λ v l q.
         let p : pre g m v ≡ true = and-r (is r 2 v || is r 4 v) _ q in
         elim (or-cases (is r 2 v) (is r 4 v) (and-l (is r 2 v || is r 4 v) _ q)) [
-          | inl y ↦ clash (pre g m v) p (x .apart v l (y & not-i _ (outside m v (not-t _ (and-r (is r 2 m) _ (x .passes))) p)))
+          | inl y ↦ clash (pre g m v) p (x .apart v l (y & not-i _ (outside m v (not-true _ (and-r (is r 2 m) _ (x .passes))) p)))
           | inr y ↦ none-is 4 v (omega arith) (i .none-returning) (is-e r 4 v y)
         ]) in
         clash (toReturn g r m)

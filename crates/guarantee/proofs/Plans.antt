@@ -15,6 +15,7 @@ use Rattle.bounded.proofs.Lists.{table-at}
 use Rattle.sets.specs.Sets.{member}
 use Rattle.sets.proofs.Members.{member-past}
 use Rattle.sets.proofs.Gather.{member-gather}
+use Rattle.sets.proofs.Facts.{gather-e}
 use Rattle.precedence.specs.Precedence as Chains
 use Rattle.precedence.proofs.Chains.{precedes-trans, closure-chain, chain-closure, precedes-below}
 use Rattle.plan.specs.declared.Plan.{Plan}
@@ -22,7 +23,6 @@ use Rattle.plan.proofs.Valid.{Valid}
 use Rattle.verdict.specs.FromPlan.{ofKind, firmAt, exposedAt, joins, linked, directAt, directOf, networkOf}
 use Rattle.verdict.specs.Network.{wayOf, inWay, before, pre, firm, exposed}
 use Rattle.verdict.specs.Check.{check, verdictNumber}
-use Rattle.verdict.proofs.Members.{gather-e}
 use Rattle.verdict.proofs.Facts.{Shape, some-way}
 use Rattle.verdict.proofs.Pass.{passes}
 use Rattle.guarantee.specs.Machine.{Asked}

@@ -11,8 +11,8 @@ use borrow.Author.Tests.{lt-ltb, le-ltb}
 use Rattle.bounded.specs.Bounded.{one, sum}
 use Rattle.bounded.proofs.Bools.{split?, by-cond, and-r}
 use Rattle.bounded.proofs.Sums.{sum-le, sum-one, sum-eq, sum-mono, sum-times, sum-zero, count-sum}
-use Rattle.sets.specs.Sets.{member, sizeOf}
-use Rattle.verdict.specs.Network.{wayOf, inWay, some}
+use Rattle.sets.specs.Sets.{member, sizeOf, some}
+use Rattle.verdict.specs.Network.{wayOf, inWay}
 use Rattle.verdict.specs.declared.Network.{Network}
 use Rattle.verdict.proofs.Facts.{Passes, no-way, some-way}
 use Rattle.run.specs.State.{code, requested, put, turn, live, start}

@@ -5,8 +5,10 @@ use mathlib.Core.Logic.{_≢_, inl, inr}
 use mathlib.Core.Bool.{true, false, not, _&&_}
 use Prim.Native.Nat.{ℕ, zero, suc, _≤_, _<_}
 use native.Mathlib.Omega.{arith}
-use Rattle.bounded.proofs.Bools.{clash, same?, split?, off, which, and-l, and-r, _&_, not-t, not-i, by-cond}
-use Rattle.verdict.specs.Network.{inWay, pre, firm, some}
+use borrow.Author.Tests.{not-true}
+use Rattle.bounded.proofs.Bools.{clash, same?, split?, off, which, and-l, and-r, _&_, not-i, by-cond}
+use Rattle.sets.specs.Sets.{some}
+use Rattle.verdict.specs.Network.{inWay, pre, firm}
 use Rattle.verdict.specs.declared.Network.{Network}
 use Rattle.verdict.proofs.Facts.{Passes, Stays, no-way}
 use Rattle.run.specs.State.{code, is, coded, requested, turn, lostIn, heldFirmAt, heldFirm, live, firstLive}
@@ -111,7 +113,7 @@ settled g ok r c stopped =
     (λ e.
     let l = lost-e g r (r .way) (and-r (not (some (requested g r))) _ e) in
     switched g ok r c (l .0) (l .2) (l .1)
-    (λ q m. none-coded g r 1 (not-t _ (and-l (not (some (requested g r))) _ e)) q (inside g r (c .past) q (omega arith)) m) stopped)
+    (λ q m. none-coded g r 1 (not-true _ (and-l (not (some (requested g r))) _ e)) q (inside g r (c .past) q (omega arith)) m) stopped)
     (λ e. record {
       core = c;
       waits = λ b l i. elim (which (some (requested g r))) [

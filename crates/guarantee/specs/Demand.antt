@@ -2,10 +2,9 @@
 -- The booking at index b has number b + 1.
 -- Assumes nothing.
 use mathlib.Core.Path.{_≡_}
-use mathlib.Core.Bool.{Bool, true, false, _||_}
+use mathlib.Core.Bool.{true, false, _||_}
 use mathlib.Core.List.{List}
-use Prim.Native.Nat.{ℕ, suc, _+_, _*_, _≤_, _<_}
-use Rattle.bounded.specs.Bounded.{one}
+use Prim.Native.Nat.{ℕ, suc, _+_, _*_, _≤_}
 use Rattle.verdict.specs.Network.{inWay, firm}
 use Rattle.verdict.specs.declared.Network.{Network}
 use Rattle.guarantee.specs.Answers.{kindOf, placeOf}

@@ -1,13 +1,13 @@
 -- Texts written piece by piece. `whole` is what the buffer is to hold in the end: what is left to write gives it, and each turn keeps that.
 -- Assumes nothing.
 use Prim.Native.Nat.{ℕ, suc, _+_, _*_, _-_, _<_, _≤_}
-use mathlib.Core.Path.{_≡_, refl, sym, _∙_}
+use mathlib.Core.Path.{_≡_, refl}
 use mathlib.Core.List.{List, [], _∷_, _++_}
 use native.Mathlib.Omega.{arith}
 use lib.ListN.{length, getD}
 use lib.Seq.{sets}
 use Rattle.decimal.specs.Decimal.{columns, columnsTo}
-use Rattle.decimal.proofs.Stores.{sets-append}
+use Rattle.decimal.proofs.Stores.{sets-append, sets-next}
 use Rattle.lines.specs.Head.{headText}
 use Rattle.lines.specs.Booking.{bookingText}
 use Rattle.lines.specs.Link.{linkText}
@@ -17,37 +17,33 @@ use Rattle.lines.proofs.Lengths.{booking-length, link-length}
 
 -- ---- a line
 
--- one piece more
-next : (d x y : List ℕ) (at n p : ℕ) (a b : List ℕ) → length a ≡ n → p ≡ at + n → x ≡ sets d at a → y ≡ sets x p b → y ≡ sets d at (a ++ b)
-next d x y at n p a b l q e f = f ∙ rw (e, q, ← l) (sym (sets-append d at a b))
-
 module _ (d b1 b2 b3 b4 b5 : List ℕ) where
   pub head-written : (n m a : ℕ) → b1 ≡ sets d 0 (80 ∷ []) → b2 ≡ sets b1 1 (columns 4 n) → b3 ≡ sets b2 5 (columns 4 m) → b4 ≡ sets b3 9 (columns 4 a)
       → b5 ≡ sets b4 13 (10 ∷ []) → b5 ≡ sets d 0 (headText n m a)
   unfolding headText columns columnsTo
   head-written n m a e f g h k =
-      let x : b2 ≡ sets d 0 (80 ∷ columns 4 n) = next d b1 b2 0 1 1 (80 ∷ []) (columns 4 n) refl refl e f in
-      let y : b3 ≡ sets d 0 (80 ∷ (columns 4 n ++ columns 4 m)) = next d b2 b3 0 5 5 (80 ∷ columns 4 n) (columns 4 m) refl refl x g in
+      let x : b2 ≡ sets d 0 (80 ∷ columns 4 n) = sets-next d b1 b2 0 1 (80 ∷ []) (columns 4 n) refl e f in
+      let y : b3 ≡ sets d 0 (80 ∷ (columns 4 n ++ columns 4 m)) = sets-next d b2 b3 0 5 (80 ∷ columns 4 n) (columns 4 m) refl x g in
       let z : b4 ≡ sets d 0 (80 ∷ (columns 4 n ++ (columns 4 m ++ columns 4 a))) =
-      next d b3 b4 0 9 9 (80 ∷ (columns 4 n ++ columns 4 m)) (columns 4 a) refl refl y h in
-      next d b4 b5 0 13 13 (80 ∷ (columns 4 n ++ (columns 4 m ++ columns 4 a))) (10 ∷ []) refl refl z k
+      sets-next d b3 b4 0 9 (80 ∷ (columns 4 n ++ columns 4 m)) (columns 4 a) refl y h in
+      sets-next d b4 b5 0 13 (80 ∷ (columns 4 n ++ (columns 4 m ++ columns 4 a))) (10 ∷ []) refl z k
 
   pub booking-written : (at x k : ℕ) → b1 ≡ sets d at (66 ∷ []) → b2 ≡ sets b1 (at + 1) (columns 4 x) → b3 ≡ sets b2 (at + 5) (32 ∷ [])
       → b4 ≡ sets b3 (at + 6) (k ∷ []) → b5 ≡ sets b4 (at + 7) (10 ∷ []) → b5 ≡ sets d at (bookingText x k)
   unfolding bookingText columns columnsTo
   booking-written at x k e f g h l =
-      let p : b2 ≡ sets d at (66 ∷ columns 4 x) = next d b1 b2 at 1 (at + 1) (66 ∷ []) (columns 4 x) refl refl e f in
-      let q : b3 ≡ sets d at (66 ∷ (columns 4 x ++ (32 ∷ []))) = next d b2 b3 at 5 (at + 5) (66 ∷ columns 4 x) (32 ∷ []) refl refl p g in
-      let r : b4 ≡ sets d at (66 ∷ (columns 4 x ++ (32 ∷ k ∷ []))) = next d b3 b4 at 6 (at + 6) (66 ∷ (columns 4 x ++ (32 ∷ []))) (k ∷ []) refl refl q h in
-      next d b4 b5 at 7 (at + 7) (66 ∷ (columns 4 x ++ (32 ∷ k ∷ []))) (10 ∷ []) refl refl r l
+      let p : b2 ≡ sets d at (66 ∷ columns 4 x) = sets-next d b1 b2 at (at + 1) (66 ∷ []) (columns 4 x) refl e f in
+      let q : b3 ≡ sets d at (66 ∷ (columns 4 x ++ (32 ∷ []))) = sets-next d b2 b3 at (at + 5) (66 ∷ columns 4 x) (32 ∷ []) refl p g in
+      let r : b4 ≡ sets d at (66 ∷ (columns 4 x ++ (32 ∷ k ∷ []))) = sets-next d b3 b4 at (at + 6) (66 ∷ (columns 4 x ++ (32 ∷ []))) (k ∷ []) refl q h in
+      sets-next d b4 b5 at (at + 7) (66 ∷ (columns 4 x ++ (32 ∷ k ∷ []))) (10 ∷ []) refl r l
 
 pub link-written : (d b1 b2 b3 b4 : List ℕ) (at u v : ℕ) → b1 ≡ sets d at (76 ∷ []) → b2 ≡ sets b1 (at + 1) (columns 4 u)
     → b3 ≡ sets b2 (at + 5) (columns 4 v) → b4 ≡ sets b3 (at + 9) (10 ∷ []) → b4 ≡ sets d at (linkText u v)
 unfolding linkText columns columnsTo
 link-written d b1 b2 b3 b4 at u v e f g h =
-    let p : b2 ≡ sets d at (76 ∷ columns 4 u) = next d b1 b2 at 1 (at + 1) (76 ∷ []) (columns 4 u) refl refl e f in
-    let q : b3 ≡ sets d at (76 ∷ (columns 4 u ++ columns 4 v)) = next d b2 b3 at 5 (at + 5) (76 ∷ columns 4 u) (columns 4 v) refl refl p g in
-    next d b3 b4 at 9 (at + 9) (76 ∷ (columns 4 u ++ columns 4 v)) (10 ∷ []) refl refl q h
+    let p : b2 ≡ sets d at (76 ∷ columns 4 u) = sets-next d b1 b2 at (at + 1) (76 ∷ []) (columns 4 u) refl e f in
+    let q : b3 ≡ sets d at (76 ∷ (columns 4 u ++ columns 4 v)) = sets-next d b2 b3 at (at + 5) (76 ∷ columns 4 u) (columns 4 v) refl p g in
+    sets-next d b3 b4 at (at + 9) (76 ∷ (columns 4 u ++ columns 4 v)) (10 ∷ []) refl q h
 
 -- ---- the lines of the bookings
 

@@ -24,7 +24,7 @@ use Rattle.lines.specs.declared.Link.{Link}
 use Rattle.lines.specs.declared.Link.the-variants as L
 use Rattle.lines.specs.declared.Kinds.{Kinds}
 use Rattle.lines.specs.declared.Links.{Links}
-use Rattle.plan.proofs.Filled.{filled}
+use Rattle.bounded.proofs.Filled.{filled}
 use Rattle.lines.proofs.Lengths.{booking-length, link-length}
 use Rattle.lines.proofs.RoundTrip.{BookingIs, booking-read, booking-accepted, LinkIs, link-read, link-accepted}
 

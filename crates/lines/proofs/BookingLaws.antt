@@ -8,8 +8,8 @@ use native.Mathlib.Omega.{arith}
 use lib.ListN.{getD, drop}
 use lib.Seq.{drop-cons}
 use lib.Dec.{eqb}
-use borrow.Author.Tests.{eq-eqb, ne-eqb}
-use Rattle.bounded.proofs.Bools.{and-no-r, not-t, not-f}
+use borrow.Author.Tests.{eq-eqb, ne-eqb, not-true}
+use Rattle.bounded.proofs.Bools.{and-no-r, went}
 use Rattle.decimal.specs.Decimal.{columns, columnsTo, sameBytes, fieldAt, numberAt}
 use Rattle.decimal.specs.declared.Field.{Field}
 use Rattle.decimal.specs.declared.Field.the-variants.{Number, Fault}
@@ -46,7 +46,7 @@ module _ (line : List ℕ) (x : ℕ) where
   pub no-kind : (k : Bool) → k ≡ isKind (getD line 6 0) → not k ≡ true → Malformed ≡ bookingOf line x
   unfolding bookingOf isBooking kindIn
   no-kind k e q =
-      let o : isKind (getD line 6 0) ≡ false = sym e ∙ not-t k q in
+      let o : isKind (getD line 6 0) ≡ false = sym e ∙ not-true k q in
       rw (and-no-r (sameBytes line (bookingText (numberAt 4 1 line) (getD line 6 0))) (isKind (getD line 6 0)) o)
 
 -- ---- of this form
@@ -69,7 +69,7 @@ module _ (line : List ℕ) (x : ℕ) (b : Bool) (p : b ≡ isFramed 66 8 line) (
   formed =
       let z : y ≡ numberAt 4 1 line = number-is 4 1 line f e1 y n1 in
       let s : sameBytes line (bookingText y (getD line 6 0)) ≡ true = rw (← whole) (same-refl line) in
-      let m : isKind (getD line 6 0) ≡ true = sym e ∙ not-f k r in
+      let m : isKind (getD line 6 0) ≡ true = went e r in
       rw (← z, s, m)
 
   pub another : (y ≡ x → ⊥) → OutOfSequence ≡ bookingOf line x

@@ -8,8 +8,8 @@ use native.Mathlib.Omega.{arith}
 use lib.ListN.{length, getD, drop, drop-of-length-le}
 use lib.Seq.{drop-cons}
 use lib.Dec.{eqb}
-use borrow.Author.Tests.{eqb-true, eq-eqb, ne-eqb}
-use Rattle.bounded.proofs.Bools.{clash, and-l, and-r, and-no-l, and-no-r, not-t, not-f}
+use borrow.Author.Tests.{eqb-true, eq-eqb, ne-eqb, not-true}
+use Rattle.bounded.proofs.Bools.{clash, and-l, and-r, and-no-l, and-no-r, went}
 use Rattle.lines.specs.Form.{isFramed}
 
 -- ---- the test, as code runs it
@@ -38,7 +38,7 @@ pub record Framed (letter w : ℕ) (line : List ℕ) : Type 0 where
 pub framed : (letter w : ℕ) (line : List ℕ) (b : Bool) → b ≡ isFramed letter w line → not b ≡ false → Framed letter w line
 unfolding isFramed
 framed letter w line b e q =
-    let t : eqb (length line) w && (eqb (getD line 0 0) letter && eqb (getD line (w - 1) 0) 10) ≡ true = sym e ∙ not-f b q in
+    let t : eqb (length line) w && (eqb (getD line 0 0) letter && eqb (getD line (w - 1) 0) 10) ≡ true = went e q in
     let r : eqb (getD line 0 0) letter && eqb (getD line (w - 1) 0) 10 ≡ true = and-r (eqb (length line) w) _ t in
     record {
       size = eqb-true (length line) w (and-l (eqb (length line) w) _ t);
@@ -48,7 +48,7 @@ framed letter w line b e q =
 
 -- a line that is not framed is no text that is
 pub unframed : (letter w : ℕ) (line text : List ℕ) (b : Bool) → b ≡ isFramed letter w line → not b ≡ true → isFramed letter w text ≡ true → line ≡ text → ⊥
-unframed letter w line text b e q f t = clash (isFramed letter w line) (ap (isFramed letter w) t ∙ f) (sym e ∙ not-t b q)
+unframed letter w line text b e q f t = clash (isFramed letter w line) (ap (isFramed letter w) t ∙ f) (sym e ∙ not-true b q)
 
 -- the letter, and then the rest
 pub begun : (letter w : ℕ) (line : List ℕ) → 0 < w → Framed letter w line → line ≡ letter ∷ drop 1 line

@@ -6,7 +6,7 @@ use mathlib.Core.List.{List, [], _∷_, _++_}
 use mathlib.Core.Bool.{Bool, true, false, not}
 use native.Mathlib.Omega.{arith}
 use lib.ListN.{drop}
-use Rattle.bounded.proofs.Bools.{not-t, not-f}
+use borrow.Author.Tests.{not-true, not-false}
 use Rattle.decimal.specs.Decimal.{columns, columnsTo, sameBytes, fieldAt, numberAt}
 use Rattle.decimal.specs.declared.Field.{Field}
 use Rattle.decimal.specs.declared.Field.the-variants.{Number, Fault}
@@ -70,8 +70,8 @@ module _ (line : List ℕ) (b : Bool) (p : b ≡ isFramed 80 14 line) (q : not b
 
   pub out : (k : Bool) → k ≡ limits n m a → not k ≡ true → OutOfLimits ≡ headOf line
   unfolding countsOf
-  out k e r = rw (formed, ← e, not-t k r)
+  out k e r = rw (formed, ← e, not-true k r)
 
   pub counts : (k : Bool) → k ≡ limits n m a → not k ≡ false → Counts n m a ≡ headOf line
   unfolding countsOf
-  counts k e r = rw (formed, ← e, not-f k r)
+  counts k e r = rw (formed, ← e, not-false k r)

@@ -6,11 +6,12 @@ use mathlib.Core.List.{List}
 use native.Mathlib.Omega.{arith}
 use lib.ListN.{length, length-append}
 use Rattle.decimal.specs.Decimal.{columns, columnsTo}
+use Rattle.plan.specs.Limits.{mostBookings, mostLinks}
 use Rattle.lines.specs.Head.{headText}
 use Rattle.lines.specs.Booking.{bookingText}
 use Rattle.lines.specs.Link.{linkText}
-use Rattle.lines.specs.Kinds.{kindsText}
-use Rattle.lines.specs.Links.{linksText}
+use Rattle.lines.specs.Kinds.{kindsText, noKinds}
+use Rattle.lines.specs.Links.{linksText, noLinks}
 
 pub head-length : (n m a : ℕ) → length (headText n m a) ≡ 14
 unfolding headText columns columnsTo
@@ -33,3 +34,11 @@ pub links-length : (m i : ℕ) (us vs : List ℕ) → length (linksText m i us v
 unfolding linksText
 links-length zero i us vs = refl
 links-length (suc m) i us vs = rw (length-append, link-length, links-length m (i + 1) us vs) (omega arith)
+
+pub no-kinds-length : length noKinds ≡ mostBookings
+unfolding noKinds
+no-kinds-length = refl
+
+pub no-links-length : length noLinks ≡ mostLinks
+unfolding noLinks
+no-links-length = refl

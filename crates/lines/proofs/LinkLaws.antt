@@ -1,32 +1,22 @@
 -- What a reader of a link's line has in hand at each of its returns, and what that says of `linkOf`.
 -- Assumes nothing.
-use Prim.Native.Nat.{ℕ, _≤_}
-use mathlib.Core.Path.{_≡_, refl, sym, _∙_}
+use Prim.Native.Nat.{ℕ}
+use mathlib.Core.Path.{_≡_, refl, _∙_}
 use mathlib.Core.List.{List, [], _∷_, _++_}
 use mathlib.Core.Bool.{Bool, true, false, not}
 use native.Mathlib.Omega.{arith}
 use lib.ListN.{drop}
-use Rattle.bounded.proofs.Bools.{and-l, and-r, not-t, not-f}
+use borrow.Author.Tests.{not-true, not-false}
 use Rattle.decimal.specs.Decimal.{columns, columnsTo, sameBytes, fieldAt, numberAt}
 use Rattle.decimal.specs.declared.Field.{Field}
 use Rattle.decimal.specs.declared.Field.the-variants.{Number, Fault}
 use Rattle.decimal.proofs.Bytes.{same-refl, same-ne}
 use Rattle.decimal.proofs.Fields.{fault-in, number-is, field-then}
-use Rattle.plan.specs.Limits.{within, inSequence}
-use Rattle.plan.proofs.LimitLaws.{within-hi}
+use Rattle.plan.specs.Limits.{inSequence}
 use Rattle.lines.specs.Form.{isFramed}
 use Rattle.lines.specs.Link.{linkText, isLink, pairOf, linkOf}
 use Rattle.lines.specs.declared.Link.the-variants.{Pair, Malformed, OutOfSequence}
 use Rattle.lines.proofs.FormLaws.{Framed, framed, unframed, begun, ended-at}
-
--- bookings in sequence are among the n
-pub ends-within : (n pu pv u v : ℕ) → inSequence n pu pv u v ≡ true → (u ≤ n) × (v ≤ n)
-unfolding inSequence
-ends-within n pu pv u v e =
-    (within-hi 1 u n (and-l (within 1 u n) _ e), within-hi 1 v n (and-l (within 1 v n) _ (and-r (within 1 u n) _ e)))
-
-pub ends-by : (n pu pv u v : ℕ) (k : Bool) → k ≡ inSequence n pu pv u v → not k ≡ false → (u ≤ n) × (v ≤ n)
-ends-by n pu pv u v k e q = ends-within n pu pv u v (sym e ∙ not-f k q)
 
 -- ---- of another form
 
@@ -74,8 +64,8 @@ module _ (line : List ℕ) (n pu pv : ℕ) (b : Bool) (p : b ≡ isFramed 76 10 
 
   pub out : (k : Bool) → k ≡ inSequence n pu pv u v → not k ≡ true → OutOfSequence ≡ linkOf line n pu pv
   unfolding pairOf
-  out k e r = rw (formed, ← e, not-t k r)
+  out k e r = rw (formed, ← e, not-true k r)
 
   pub pair : (k : Bool) → k ≡ inSequence n pu pv u v → not k ≡ false → Pair u v ≡ linkOf line n pu pv
   unfolding pairOf
-  pair k e r = rw (formed, ← e, not-f k r)
+  pair k e r = rw (formed, ← e, not-false k r)

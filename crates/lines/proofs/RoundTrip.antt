@@ -1,7 +1,7 @@
 -- A line that is written of good values is read as these values, and an accepted line is, to the byte, what is written of what was read.
 -- Assumes nothing.
-use Prim.Native.Nat.{ℕ, _^_, _<_, _≤_}
-use mathlib.Core.Path.{_≡_, refl, _∙_}
+use Prim.Native.Nat.{ℕ, _^_, _<_}
+use mathlib.Core.Path.{_≡_, refl, _∙_, sym}
 use mathlib.Core.List.{List}
 use mathlib.Core.Bool.{Bool, true, false, _&&_, cond}
 use native.Mathlib.Omega.{arith}
@@ -12,14 +12,14 @@ use Rattle.decimal.specs.Decimal.{columns, columnsTo, sameBytes, numberAt}
 use Rattle.decimal.proofs.Bytes.{same-refl, same-eq}
 use Rattle.decimal.proofs.Fields.{number-in}
 use Rattle.plan.specs.Limits.{isKind, limits, inSequence}
-use Rattle.plan.proofs.LimitLaws.{Limited, limited}
+use Rattle.plan.proofs.LimitLaws.{Limited, limited, sequenced}
 use Rattle.lines.specs.Head.{headText, isHead, countsOf, headOf}
 use Rattle.lines.specs.Booking.{bookingText, kindIn, isBooking, bookingOf}
 use Rattle.lines.specs.Link.{linkText, isLink, pairOf, linkOf}
+use Rattle.lines.specs.declared.Head.{Head}
 use Rattle.lines.specs.declared.Head.the-variants as H
 use Rattle.lines.specs.declared.Booking.the-variants as B
 use Rattle.lines.specs.declared.Link.the-variants as L
-use Rattle.lines.proofs.LinkLaws.{ends-within}
 
 -- ---- the head
 
@@ -62,6 +62,10 @@ head-accepted line n m a =
         record { text = h refl ∙ rw (x, y, z); fit = rw (x, y, z) at l }
     go true false h l e = clash true refl cc
     go false c h l e = clash true refl cc
+
+-- the counts of a head that was read are within the limits
+pub head-limits : (line : List ℕ) (h : Head) (n m a : ℕ) → h ≡ headOf line → h ≡ H.Counts n m a → Limited n m a
+head-limits line h n m a e g = limited n m a (head-accepted line n m a (sym e ∙ g) .fit)
 
 -- ---- a booking
 
@@ -109,7 +113,7 @@ module _ (n pu pv u v : ℕ) where
   pub link-read : n < 10 ^ 4 → inSequence n pu pv u v ≡ true → linkOf (linkText u v) n pu pv ≡ L.Pair u v
   unfolding linkOf isLink pairOf
   link-read h e =
-      let b : (u ≤ n) × (v ≤ n) = ends-within n pu pv u v e in
+      let b = sequenced n pu pv u v e in
       rw (from-in (omega arith), to-in (omega arith), same-refl (linkText u v), e)
 
 pub record LinkIs (line : List ℕ) (n pu pv u v : ℕ) : Type 0 where

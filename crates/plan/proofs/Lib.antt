@@ -1,5 +1,3 @@
-pub mod Rows
 pub mod LimitLaws
 pub mod RecordLaws
 pub mod Valid
-pub mod Filled

@@ -1,13 +1,13 @@
 -- The tests of the limits as facts.
 -- Assumes nothing.
-use mathlib.Core.Path.{_≡_, sym, _∙_}
+use mathlib.Core.Path.{_≡_}
 use mathlib.Core.Logic.{_⊎_, inl, inr}
 use mathlib.Core.Bool.{Bool, true, false, not, _&&_}
 use Prim.Native.Nat.{ℕ, _≤_, _<_}
 use native.Mathlib.Omega.{arith}
 use lib.Dec.{eqb, leb, ltb}
-use borrow.Author.Tests.{leb-true, le-leb, eqb-true, eq-eqb, ltb-true, lt-ltb}
-use Rattle.bounded.proofs.Bools.{and-l, and-r, _&_, or-cases, or-l, or-r, not-f}
+use borrow.Author.Tests.{leb-true, le-leb, eqb-true, ltb-true}
+use Rattle.bounded.proofs.Bools.{and-l, and-r, _&_, or-cases, went}
 use Rattle.plan.specs.Limits.{mostBookings, mostLinks, mostWays, isKind, within, counted, limits, rises, inSequence}
 
 -- ---- from lo to hi
@@ -23,6 +23,13 @@ within-hi lo x hi e = leb-true x hi (and-r (leb lo x) (leb x hi) e)
 pub within-i : (lo x hi : ℕ) → lo ≤ x → x ≤ hi → within lo x hi ≡ true
 unfolding within
 within-i lo x hi p q = le-leb lo x p & le-leb x hi q
+
+-- past `if !is_within(lo, x, hi) { return .. }`
+pub within-lo-by : (lo x hi : ℕ) (b : Bool) → b ≡ within lo x hi → not b ≡ false → lo ≤ x
+within-lo-by lo x hi b e q = within-lo lo x hi (went e q)
+
+pub within-hi-by : (lo x hi : ℕ) (b : Bool) → b ≡ within lo x hi → not b ≡ false → x ≤ hi
+within-hi-by lo x hi b e q = within-hi lo x hi (went e q)
 
 -- ---- the counts
 
@@ -49,7 +56,7 @@ limited n m a e =
 
 -- past `if !in_limits(n, m, a) { return .. }`
 pub limited-by : (n m a : ℕ) (x : Bool) → x ≡ limits n m a → not x ≡ false → Limited n m a
-limited-by n m a x e q = limited n m a (sym e ∙ not-f x q)
+limited-by n m a x e q = limited n m a (went e q)
 
 pub limited-i : (n m a : ℕ) → Limited n m a → limits n m a ≡ true
 unfolding limits counted
@@ -67,12 +74,6 @@ kind-cases k e = elim (or-cases (eqb k 67) _ e) [
   | inr q ↦ elim (or-cases (eqb k 80) _ q) [ inl p ↦ inr (inl (eqb-true k 80 p)) | inr r ↦ inr (inr (eqb-true k 82 r)) ]
 ]
 
-pub kind-i : (k : ℕ) → (k ≡ 67) ⊎ ((k ≡ 80) ⊎ (k ≡ 82)) → isKind k ≡ true
-unfolding isKind
-kind-i k (inl c) = or-l (eqb k 67) _ (eq-eqb k 67 c)
-kind-i k (inr (inl p)) = or-r (eqb k 67) _ (or-l (eqb k 80) _ (eq-eqb k 80 p))
-kind-i k (inr (inr r)) = or-r (eqb k 67) _ (or-r (eqb k 80) _ (eq-eqb k 82 r))
-
 -- ---- links
 
 pub rises-cases : (pu pv u v : ℕ) → rises pu pv u v ≡ true → (pu < u) ⊎ ((pu ≡ u) × (pv < v))
@@ -81,11 +82,6 @@ rises-cases pu pv u v e = elim (or-cases (ltb pu u) _ e) [
   | inl l ↦ inl (ltb-true pu u l)
   | inr q ↦ inr (eqb-true pu u (and-l (eqb pu u) _ q), ltb-true pv v (and-r (eqb pu u) _ q))
 ]
-
-pub rises-i : (pu pv u v : ℕ) → (pu < u) ⊎ ((pu ≡ u) × (pv < v)) → rises pu pv u v ≡ true
-unfolding rises
-rises-i pu pv u v (inl l) = or-l (ltb pu u) _ (lt-ltb pu u l)
-rises-i pu pv u v (inr q) = or-r (ltb pu u) _ (eq-eqb pu u (q .0) & lt-ltb pv v (q .1))
 
 -- a link between two of the bookings 1 to n, after the link from pu to pv
 pub record Sequenced (n pu pv u v : ℕ) : Type 0 where
@@ -105,7 +101,6 @@ sequenced n pu pv u v e =
       rising = rises-cases pu pv u v (and-r (within 1 v n) _ r);
     }
 
-pub sequenced-i : (n pu pv u v : ℕ) → Sequenced n pu pv u v → inSequence n pu pv u v ≡ true
-unfolding inSequence
-sequenced-i n pu pv u v s =
-    within-i 1 u n (s .start .0) (s .start .1) & within-i 1 v n (s .end .0) (s .end .1) & rises-i pu pv u v (s .rising)
+-- past `if !in_sequence(n, pu, pv, u, v) { return .. }`
+pub sequenced-by : (n pu pv u v : ℕ) (k : Bool) → k ≡ inSequence n pu pv u v → not k ≡ false → Sequenced n pu pv u v
+sequenced-by n pu pv u v k e q = sequenced n pu pv u v (went e q)

@@ -1,12 +1,16 @@
--- What the judge of a record has in hand at each of its returns.
+-- What the judge of a record has in hand at each of its returns; and a sheet that is judged fine.
 -- Assumes nothing.
-use mathlib.Core.Path.{_≡_, sym, _∙_}
+use mathlib.Core.Path.{_≡_, sym, refl}
 use mathlib.Core.Bool.{Bool, true, false, not}
-use Rattle.bounded.proofs.Bools.{and-l, not-t, not-f}
+use borrow.Author.Tests.{not-true, not-false}
+use Rattle.bounded.proofs.Bools.{and-l, clash, went}
 use Rattle.plan.specs.Limits.{limits}
 use Rattle.plan.specs.Record.{countsFit, entriesFit, recordOf}
 use Rattle.plan.specs.declared.Plan.{Plan}
 use Rattle.plan.specs.declared.Judgement.the-variants.{Fine, Count, Sequence}
+use Rattle.plan.specs.Judging.{isFine}
+use Rattle.plan.specs.declared.Judged.{Judged}
+use Rattle.plan.specs.declared.Judged.the-variants as J
 use Rattle.plan.proofs.LimitLaws.{Limited, limited}
 
 -- a record whose counts fit has its three counts within the limits
@@ -17,17 +21,25 @@ fit-limited p e = limited (p .n) (p .m) (p .a) (and-l (limits (p .n) (p .m) (p .
 module _ (p : Plan) (x : Bool) (e : x ≡ countsFit p) where
   pub counts-out : not x ≡ true → Count ≡ recordOf p
   unfolding recordOf
-  counts-out q = rw (← e, not-t x q)
+  counts-out q = rw (← e, not-true x q)
 
   module _ (q : not x ≡ false) where
     pub counts-in : Limited (p .n) (p .m) (p .a)
-    counts-in = fit-limited p (sym e ∙ not-f x q)
+    counts-in = fit-limited p (went e q)
 
     module _ (y : Bool) (f : y ≡ entriesFit p) where
       pub entries-out : not y ≡ true → Sequence ≡ recordOf p
       unfolding recordOf
-      entries-out r = rw (← e, ← f, not-f x q, not-t y r)
+      entries-out r = rw (← e, ← f, not-false x q, not-true y r)
 
       pub record-fine : not y ≡ false → Fine ≡ recordOf p
       unfolding recordOf
-      record-fine r = rw (← e, ← f, not-f x q, not-f y r)
+      record-fine r = rw (← e, ← f, not-false x q, not-false y r)
+
+-- ---- a sheet's judgement
+
+pub fine-is : (j : Judged) → isFine j ≡ true → j ≡ J.Fine
+fine-is J.Fine e = refl
+fine-is (J.Form l) e = clash true refl (sym e)
+fine-is (J.Count l) e = clash true refl (sym e)
+fine-is (J.Sequence l) e = clash true refl (sym e)

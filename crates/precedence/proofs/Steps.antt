@@ -8,7 +8,7 @@ use Prim.Native.Nat.{ℕ, _+_, _<_}
 use native.Mathlib.Numerals.{add-one}
 use lib.Bits.{bitOr, or-zero-r}
 use lib.ListN.{length, getD}
-use Rattle.bounded.proofs.Bools.{which, or-l, or-r, or-cases, or-false, and-i, and-l, and-r}
+use Rattle.bounded.proofs.Bools.{which, or-l, or-r, or-cases, or-false, and-l, and-r, _&_}
 use Rattle.bounded.proofs.Lists.{table-length, table-at, table-is}
 use Rattle.sets.specs.Sets.{member}
 use Rattle.sets.proofs.Members.{member-or}
@@ -68,4 +68,4 @@ step-old p k u v h e = through-before p k u v h ∙ or-l (before p u v) (before 
 
 pub step-new : (p : List ℕ) (k u v : ℕ) → v < 64 → before p k v ≡ true → before p u k ≡ true → before (throughOf p k) u v ≡ true
 step-new p k u v h a b =
-    through-before p k u v h ∙ or-r (before p u v) (before p k v && before p u k) (and-i (before p k v) (before p u k) a b)
+    through-before p k u v h ∙ or-r (before p u v) (before p k v && before p u k) (a & b)

@@ -5,12 +5,12 @@ use mathlib.Core.Logic.{_≢_}
 use mathlib.Core.Bool.{true, false, not, _&&_}
 use Prim.Native.Nat.{ℕ, suc, _<_}
 use lib.Dec.{eqb}
-use borrow.Author.Tests.{ltb-true, eqb-true, eqb-false}
+use borrow.Author.Tests.{ltb-true, eqb-true, eqb-false, not-true}
 use Rattle.bounded.specs.Bounded.{first}
-use Rattle.bounded.proofs.Bools.{by-cond, and-l, and-r, not-t}
+use Rattle.bounded.proofs.Bools.{by-cond, and-l, and-r}
 use Rattle.bounded.proofs.First.{Least, first-least, first-none}
-use Rattle.sets.specs.Sets.{member}
-use Rattle.verdict.specs.Network.{inWay, exposed, some}
+use Rattle.sets.specs.Sets.{member, some}
+use Rattle.verdict.specs.Network.{inWay, exposed}
 use Rattle.verdict.specs.declared.Network.{Network}
 use Rattle.run.specs.State.{code, is, held, free, requested, returning, put, lostIn, live, liveAt, firstLive}
 use Rattle.run.specs.Orders.{needed, toReturn, ready, toRequest, still, ending, next}
@@ -102,8 +102,8 @@ return-facts g r x e =
     record {
       booking = h .0;
       held = h .1;
-      outside = not-t (inWay g (r .way) x) (and-l (not (inWay g (r .way) x)) _ t);
-      loose = not-t (needed g r x) (and-r (not (inWay g (r .way) x)) _ t);
+      outside = not-true (inWay g (r .way) x) (and-l (not (inWay g (r .way) x)) _ t);
+      loose = not-true (needed g r x) (and-r (not (inWay g (r .way) x)) _ t);
     }
 
 -- a booking to request

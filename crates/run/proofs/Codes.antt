@@ -2,7 +2,7 @@
 -- Assumes nothing.
 use mathlib.Core.Path.{_≡_, refl, sym, ap, ap₂, _∙_}
 use mathlib.Core.Logic.{_≢_, inl, inr}
-use mathlib.Core.Bool.{Bool, true, false, not, _&&_, _||_, cond}
+use mathlib.Core.Bool.{Bool, true, not, _&&_, _||_}
 use mathlib.Core.List.{List}
 use Prim.Native.Nat.{ℕ, zero, suc, _+_, _-_, _^_, _≤_, _<_}
 use native.Mathlib.Nat.{le-refl}
@@ -13,18 +13,19 @@ use lib.Dec.{eqb}
 use lib.ListN.{getD}
 use lib.Bits.{bitAnd, bitOr}
 use Rattle.bounded.specs.Bounded.{any, first}
-use Rattle.bounded.proofs.Bools.{which}
+use Rattle.bounded.proofs.Bools.{which, and-assoc}
 use Rattle.bounded.proofs.Tests.{any-ext}
 use Rattle.bounded.proofs.First.{first-ext}
 use Rattle.bounded.proofs.Loops.{So-far, first-at, first-over}
 use Rattle.sets.specs.Sets.{member, gather, without, subsetOf, disjointFrom}
-use Rattle.sets.proofs.Members.{member-and, member-or, member-zero}
+use Rattle.sets.proofs.Members.{member-and}
 use Rattle.sets.proofs.Gather.{gather-is, member-gather}
 use Rattle.sets.proofs.Operations.{member-without}
-use Rattle.sets.proofs.Whole.{gather-and, gather-or, member-low}
+use Rattle.sets.proofs.Whole.{gather-and, gather-or, picked}
+use Rattle.sets.proofs.Facts.{gather-e}
 use Rattle.verdict.specs.declared.Network.{Network}
 use Rattle.verdict.specs.Network.{wayOf, inWay, before, pre, firm}
-use Rattle.run.specs.State.{is, coded, free, held, lost, heldFirmAt, heldFirm, lostIn, live, liveAt, firstLive}
+use Rattle.run.specs.State.{is, coded, heldFirmAt, heldFirm, lostIn, live, liveAt, firstLive}
 use Rattle.run.specs.Orders.{standsOn, needed, toReturn, ready, toRequest}
 use Rattle.run.specs.declared.Run.{Run}
 
@@ -37,17 +38,6 @@ pub way-entry : (g : Network) (w : ℕ) → w ≢ 0 → getD (g .way) (w - 1) 0 
 unfolding wayOf
 way-entry g zero d = absurd (d refl)
 way-entry g (suc k) d = ap (λ (i : ℕ). getD (g .way) i 0) (omega arith)
-
-and-assoc : (a b c : Bool) → (a && b) && c ≡ a && (b && c)
-and-assoc true b c = refl
-and-assoc false b c = refl
-
--- what `if t { a } else { b }` gives on each side
-pub cond-on : {A : Type 0} (t : Bool) (a b : A) → t ≡ true → a ≡ cond t a b
-cond-on t a b e = rw e
-
-pub cond-off : {A : Type 0} (t : Bool) (a b : A) → t ≡ false → b ≡ cond t a b
-cond-off t a b e = rw e
 
 module _ (g : Network) (r : Run) where
   pub held-firm-is : (s : ℕ) → s ≡ gather (is r 2) (g .n) → bitAnd s (g .firm) ≡ heldFirm g r
@@ -75,27 +65,7 @@ module _ (g : Network) (r : Run) (l f : ℕ) (el : l ≡ gather (is r 3) (g .n))
   unfolding firstLive
   live-none k s h = rw (← first-over (liveAt g r) (g .a) k (live-far k s) h, le-ltb (g .a) (g .a) (le-refl (g .a)))
 
--- ---- what is needed: the union of the predecessors of the busy
-
--- v is busy and b precedes it
-unfoldable pub reach : ℕ → List ℕ → ℕ → ℕ → Bool
-reach busy sets b v = member busy v && member (getD sets v 0) b
-
-member-where : (t : Bool) (s b : ℕ) → member (cond t s 0) b ≡ t && member s b
-member-where true s b = refl
-member-where false s b = member-zero b
-
-pub reach-none : (busy : ℕ) (sets : List ℕ) (b : ℕ) → member 0 b ≡ any (reach busy sets b) 0
-unfolding any
-reach-none busy sets b = member-zero b
-
-pub reach-more : (busy : ℕ) (sets : List ℕ) (v s t : ℕ) → ((b : ℕ) → member s b ≡ any (reach busy sets b) v)
-    → t ≡ cond (member busy v) (getD sets v 0) 0 → (b : ℕ) → member (bitOr s t) b ≡ any (reach busy sets b) (v + 1)
-unfolding any reach
-reach-more busy sets v s t h e b =
-    rw (add-one v, e)
-    (member-or s (cond (member busy v) (getD sets v 0) 0) b
-    ∙ ap₂ (λ (p q : Bool). p || q) (h b) (member-where (member busy v) (getD sets v 0) b))
+-- ---- what is needed and what is ready
 
 -- what precedes b is part of p
 unfoldable pub readyIn : ℕ → List ℕ → ℕ → Bool
@@ -109,11 +79,11 @@ module _ (g : Network) (r : Run) where
       ∙ member-gather (λ i. is r 2 i || is r 4 i) (g .n) v h
 
   pub needed-is : (p q s : ℕ) → p ≡ gather (is r 2) (g .n) → q ≡ gather (is r 4) (g .n) → s < 2 ^ 64
-      → ((b : ℕ) → member s b ≡ any (reach (bitOr p q) (g .before) b) (g .n)) → s ≡ gather (needed g r) 64
-  unfolding needed standsOn pre before reach
+      → ((b : ℕ) → member s b ≡ any (picked (bitOr p q) (g .before) b) (g .n)) → s ≡ gather (needed g r) 64
+  unfolding needed standsOn pre before picked
   needed-is p q s ep eq hs h =
       gather-is (needed g r) 64 s hs
-      (λ b l. h b ∙ any-ext (reach (bitOr p q) (g .before) b) (standsOn g r b) (g .n)
+      (λ b l. h b ∙ any-ext (picked (bitOr p q) (g .before) b) (standsOn g r b) (g .n)
       (λ v k. ap (λ (t : Bool). t && member (getD (g .before) v 0) b) (busy-at p q v ep eq k)))
 
   pub ready-is : (p s : ℕ) → p ≡ gather (is r 2) (g .n) → s ≡ gather (readyIn p (g .before)) (g .n) → s ≡ gather (ready g r) (g .n)
@@ -136,7 +106,7 @@ module _ (g : Network) (r : Run) where
   unfolding toRequest coded inWay
   request-at i = elim (which (member (gather (is r 0) (g .n)) i)) [
     | inl e ↦ and-assoc (member (gather (is r 0) (g .n)) i) (member (wayOf g (r .way)) i) (member (gather (ready g r) (g .n)) i)
-        ∙ ap (λ (t : Bool). member (gather (is r 0) (g .n)) i && (member (wayOf g (r .way)) i && t)) (member-gather (ready g r) (g .n) i (member-low (is r 0) (g .n) i e))
+        ∙ ap (λ (t : Bool). member (gather (is r 0) (g .n)) i && (member (wayOf g (r .way)) i && t)) (member-gather (ready g r) (g .n) i (gather-e (is r 0) (g .n) i e .0))
     | inr e ↦ rw e
   ]
 

@@ -1,32 +1,23 @@
 -- What next order, the switch and a reply are at each exit of their code, from the tests that led there.
 -- Assumes nothing.
-use mathlib.Core.Path.{_≡_, ap}
+use mathlib.Core.Path.{_≡_}
 use mathlib.Core.Logic.{_≢_, inl, inr}
-use mathlib.Core.Bool.{true, false, not, cond}
+use mathlib.Core.Bool.{true, false, cond}
 use Prim.Native.Nat.{ℕ, _≤_, _<_}
 use native.Mathlib.Omega.{arith}
 use lib.Dec.{ltb}
 use borrow.Author.Tests.{lt-ltb, le-ltb, eq-eqb, ne-eqb}
 use Rattle.bounded.specs.Bounded.{first}
 use Rattle.bounded.proofs.Bools.{same?}
-use Rattle.sets.specs.Sets.{gather}
+use Rattle.sets.specs.Sets.{gather, some}
+use Rattle.sets.proofs.Facts.{some-on, some-off}
 use Rattle.verdict.specs.declared.Network.{Network}
-use Rattle.verdict.specs.Network.{some}
 use Rattle.run.specs.State.{code, is, coded, requested, returning, put, turn, lostIn, firstLive}
 use Rattle.run.specs.Orders.{toReturn, toRequest, still, ending, next}
 use Rattle.run.specs.Replies.{toSwitch, settle, afterNo, fits, misfits, reply}
 use Rattle.run.specs.declared.Run.{Run}
 use Rattle.run.specs.declared.Ordered.{Ordered}
 use Rattle.run.specs.declared.Order.the-variants.{Request, Return, Wait, Flown, Off}
-
--- a set that the code compares with 0
-some-t : (s t : ℕ) → s ≡ t → s ≢ 0 → some t ≡ true
-unfolding some
-some-t s t p d = rw (← p) (ap not (ne-eqb s 0 d))
-
-some-f : (s t : ℕ) → s ≡ t → s ≡ 0 → some t ≡ false
-unfolding some
-some-f s t p z = rw (← p) (ap not (eq-eqb s 0 z))
 
 -- ---- next order: what is left once the rules before have not applied
 
@@ -74,11 +65,11 @@ module _ (g : Network) (r : Run) where
   module _ (s : ℕ) (es : s ≡ gather (is r 4) (g .n)) where
     pub return-wait : s ≢ 0 → still Wait r ≡ rule3
     unfolding rule3 coded
-    return-wait d = rw (some-t s (gather (is r 4) (g .n)) es d)
+    return-wait d = rw (some-on s (gather (is r 4) (g .n)) es d)
 
     pub past-3 : s ≡ 0 → rule4 ≡ rule3
     unfolding rule3 coded
-    past-3 z = rw (some-f s (gather (is r 4) (g .n)) es z)
+    past-3 z = rw (some-off s (gather (is r 4) (g .n)) es z)
 
   module _ (y : ℕ) (ey : y ≡ first (toRequest g r) 64) where
     pub request-now : y < 64 → (t : Run) → t ≡ put r y 1 → record { order = Request y; run = t } ≡ rule4
@@ -92,23 +83,23 @@ module _ (g : Network) (r : Run) where
   module _ (s : ℕ) (es : s ≡ gather (is r 1) (g .n)) where
     pub request-wait : s ≢ 0 → still Wait r ≡ rule5
     unfolding rule5 coded
-    request-wait d = rw (some-t s (gather (is r 1) (g .n)) es d)
+    request-wait d = rw (some-on s (gather (is r 1) (g .n)) es d)
 
     pub past-5 : s ≡ 0 → rule6 ≡ rule5
     unfolding rule5 coded
-    past-5 z = rw (some-f s (gather (is r 1) (g .n)) es z)
+    past-5 z = rw (some-off s (gather (is r 1) (g .n)) es z)
 
     pub settle-wait : s ≢ 0 → r ≡ settle g r
     unfolding settle toSwitch coded
-    settle-wait d = rw (some-t s (gather (is r 1) (g .n)) es d)
+    settle-wait d = rw (some-on s (gather (is r 1) (g .n)) es d)
 
     pub settle-turn : s ≡ 0 → lostIn g r (r .way) ≡ true → (w : ℕ) → w ≡ firstLive g r → turn r w ≡ settle g r
     unfolding settle toSwitch coded
-    settle-turn z l w p = rw (some-f s (gather (is r 1) (g .n)) es z, l, p)
+    settle-turn z l w p = rw (some-off s (gather (is r 1) (g .n)) es z, l, p)
 
     pub settle-stay : s ≡ 0 → lostIn g r (r .way) ≡ false → r ≡ settle g r
     unfolding settle toSwitch coded
-    settle-stay z l = rw (some-f s (gather (is r 1) (g .n)) es z, l)
+    settle-stay z l = rw (some-off s (gather (is r 1) (g .n)) es z, l)
 
 -- the rules from one on give the next order
 abbrev pub Leads : (Network → Run → Ordered) → Network → Run → Type 0

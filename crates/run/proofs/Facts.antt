@@ -6,12 +6,12 @@ use mathlib.Core.Bool.{true, false, not}
 use Prim.Native.Nat.{ℕ, suc, _≤_, _<_}
 use native.Mathlib.Omega.{arith}
 use lib.ListN.{length}
-use borrow.Author.Tests.{eqb-true, eq-eqb}
-use Rattle.bounded.proofs.Bools.{clash, off, split?, and-l, and-r, _&_, not-t, not-i}
-use Rattle.sets.specs.Sets.{member}
-use Rattle.verdict.specs.Network.{wayOf, inWay, pre, firm, exposed, returnable, some}
+use borrow.Author.Tests.{eqb-true, eq-eqb, not-true}
+use Rattle.bounded.proofs.Bools.{clash, off, split?, and-l, and-r, _&_, not-i}
+use Rattle.sets.specs.Sets.{member, some}
+use Rattle.sets.proofs.Facts.{gather-e, gather-i, subset-e, subset-i, meet-i, meet-e, some-e, some-n}
+use Rattle.verdict.specs.Network.{wayOf, inWay, pre, firm, exposed, returnable}
 use Rattle.verdict.specs.declared.Network.{Network}
-use Rattle.verdict.proofs.Members.{gather-i, gather-e, subset-i, subset-e, meet-i, meet-e, some-e, some-n}
 use Rattle.run.specs.State.{code, is, coded, lost, lostIn, heldFirmAt, heldFirm, live}
 use Rattle.run.specs.Sound.{waysBefore}
 use Rattle.run.specs.declared.Run.{Run}
@@ -81,7 +81,7 @@ inside g r past b h = elim (split? b (g .n)) [ inl l ↦ l | inr l ↦ absurd (h
 -- what may be returned is not firm
 pub soft : (g : Network) (b : ℕ) → returnable g b ≡ true → firm g b ≡ false
 unfolding returnable
-soft g b e = not-t (firm g b) (and-r (exposed g b) _ e)
+soft g b e = not-true (firm g b) (and-r (exposed g b) _ e)
 
 -- ---- live ways
 
@@ -111,7 +111,7 @@ module _ (g : Network) (small : g .n ≤ 64) where
   unfolding live heldFirm heldFirmAt inWay
   live-e r w c e =
       record {
-        unlost = λ b p q. clash (lostIn g r w) (lost-i r w b (inside g r c b (omega arith)) p q) (not-t _ (and-l (not (lostIn g r w)) _ e));
+        unlost = λ b p q. clash (lostIn g r w) (lost-i r w b (inside g r c b (omega arith)) p q) (not-true _ (and-l (not (lostIn g r w)) _ e));
         has-firm = λ b p q.
             let h = inside g r c b (omega arith) in
             subset-e (heldFirm g r) (wayOf g w) b (and-r (not (lostIn g r w)) _ e) (omega arith) (gather-i (heldFirmAt g r) (g .n) b h (is-i r 2 b p & q));

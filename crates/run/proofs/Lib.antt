@@ -3,4 +3,3 @@ pub mod Cases
 pub mod SoundTest
 pub mod Codes
 pub mod Exits
-pub mod Bytes

@@ -7,13 +7,14 @@ use Prim.Native.Nat.{ℕ, _≤_, _<_}
 use native.Mathlib.Omega.{arith}
 use lib.Dec.{leb}
 use lib.ListN.{length, List·getD-eq-default}
-use borrow.Author.Tests.{leb-true, le-leb}
+use borrow.Author.Tests.{leb-true, le-leb, not-true}
 use Rattle.bounded.specs.Bounded.{any}
-use Rattle.bounded.proofs.Bools.{same?, split?, and-l, and-r, _&_, or-cases, or-l, or-r, not-t, not-i, off, imp-e, imp-i}
+use Rattle.bounded.proofs.Bools.{same?, split?, and-l, and-r, _&_, or-cases, or-l, or-r, not-i, off, imp-e, imp-i}
 use Rattle.bounded.proofs.Tests.{any-i, any-e, all-i, all-e}
-use Rattle.verdict.specs.Network.{wayOf, inWay, before, pre, exposed, returnable, some}
+use Rattle.sets.specs.Sets.{some}
+use Rattle.sets.proofs.Facts.{gather-e, gather-i, subset-e, subset-i, some-i}
+use Rattle.verdict.specs.Network.{wayOf, inWay, before, pre, exposed, returnable}
 use Rattle.verdict.specs.declared.Network.{Network}
-use Rattle.verdict.proofs.Members.{gather-i, gather-e, subset-i, subset-e, some-i}
 use Rattle.verdict.proofs.Facts.{Shape}
 use Rattle.run.specs.State.{code, is, held, lost, requested, heldFirmAt, heldFirm, liveAt}
 use Rattle.run.specs.Orders.{ready}
@@ -40,7 +41,7 @@ module _ (g : Network) (sh : Shape g) (r : Run) (s : Sound g r) where
   leaves : (b q : ℕ) → leaving g r b ≡ true → code r q ≢ 1
   unfolding leaving c
   leaves b q e m = elim (or-cases (is r 2 b && not (inWay g (r .way) b)) (is r 4 b) e) [
-    | inl z ↦ c .quiet b q (is-e r 2 b (and-l (is r 2 b) _ z)) (not-t _ (and-r (is r 2 b) _ z)) m
+    | inl z ↦ c .quiet b q (is-e r 2 b (and-l (is r 2 b) _ z)) (not-true _ (and-r (is r 2 b) _ z)) m
     | inr z ↦ c .still b q (is-e r 4 b z) m
   ]
 
@@ -160,7 +161,7 @@ module _ (g : Network) (sh : Shape g) (r : Run) (size : length (r .code) ≡ 64)
   quiet-f : (b q : ℕ) → leaving g r b ≡ true → b < g .n → code r q ≢ 1
   unfolding quiet
   quiet-f b q e l m =
-      none-coded g r 1 (not-t _ (imp-e (any (leaving g r) (g .n)) _ (t .quiet-t) (any-i (leaving g r) (g .n) b l e))) q (in-n q (omega arith)) m
+      none-coded g r 1 (not-true _ (imp-e (any (leaving g r) (g .n)) _ (t .quiet-t) (any-i (leaving g r) (g .n) b l e))) q (in-n q (omega arith)) m
 
   sentences-sound : Sound g r
   unfolding wayKnown lostExposed requestedInside returningOutside mayReturn leaving earlierDead passedOver liveAt firmInside heldFirm heldFirmAt inWay exposed
@@ -176,10 +177,10 @@ module _ (g : Network) (sh : Shape g) (r : Run) (size : length (r .code) ≡ 64)
           asked = λ b m. let h = in-n b (omega arith) in subset-e (requested g r) (wayOf g (r .way)) b (t .requested-t) (low b h) (coded-i g r 1 b h m);
           going = λ b m.
               let k = imp-e (is r 4 b) _ (all-e (mayReturn g r) (g .n) (t .returning-t) b (in-n b (omega arith))) (is-i r 4 b m) in
-              (and-l (returnable g b) _ k, not-t _ (and-r (returnable g b) _ k));
+              (and-l (returnable g b) _ k, not-true _ (and-r (returnable g b) _ k));
           quiet = λ b q m o. quiet-f b q (or-l (is r 2 b && not (inWay g (r .way) b)) _ (is-i r 2 b m & not-i _ o)) (in-n b (omega arith));
           still = λ b q m. quiet-f b q (or-r (is r 2 b && not (inWay g (r .way) b)) _ (is-i r 4 b m)) (in-n b (omega arith));
-          earlier = λ k h. not-t _ (all-e (passedOver g r) (waysBefore g (r .way)) (t .earlier-t) k h);
+          earlier = λ k h. not-true _ (all-e (passedOver g r) (waysBefore g (r .way)) (t .earlier-t) k h);
           firm-in = λ b m z.
               let h = in-n b (omega arith) in
               subset-e (heldFirm g r) (wayOf g (r .way)) b (t .firm-t) (low b h) (gather-i (heldFirmAt g r) (g .n) b h (is-i r 2 b m & z));

@@ -4,8 +4,8 @@ use mathlib.Core.Bool.{Bool, not, _&&_, _||_, cond}
 use Prim.Native.Nat.{ℕ}
 use lib.Dec.{eqb, ltb}
 use Rattle.bounded.specs.Bounded.{any, first}
-use Rattle.sets.specs.Sets.{member, subsetOf}
-use Rattle.verdict.specs.Network.{inWay, before, pre, some}
+use Rattle.sets.specs.Sets.{member, subsetOf, some}
+use Rattle.verdict.specs.Network.{inWay, before, pre}
 use Rattle.verdict.specs.declared.Network.{Network}
 use Rattle.run.specs.State.{is, put, free, requested, held, returning, lostIn}
 use Rattle.run.specs.declared.Run.{Run}

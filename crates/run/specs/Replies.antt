@@ -3,7 +3,8 @@
 use mathlib.Core.Bool.{Bool, true, false, not, _&&_, cond}
 use Prim.Native.Nat.{ℕ}
 use lib.Dec.{eqb, ltb}
-use Rattle.verdict.specs.Network.{exposed, some}
+use Rattle.sets.specs.Sets.{some}
+use Rattle.verdict.specs.Network.{exposed}
 use Rattle.verdict.specs.declared.Network.{Network}
 use Rattle.run.specs.State.{is, put, turn, requested, lostIn, firstLive}
 use Rattle.run.specs.declared.Run.{Run}

@@ -4,8 +4,8 @@ use mathlib.Core.Bool.{Bool, not, _&&_, _||_}
 use Prim.Native.Nat.{ℕ, zero, suc}
 use lib.Dec.{leb}
 use Rattle.bounded.specs.Bounded.{imp, any, all}
-use Rattle.sets.specs.Sets.{subsetOf}
-use Rattle.verdict.specs.Network.{wayOf, inWay, returnable, some}
+use Rattle.sets.specs.Sets.{subsetOf, some}
+use Rattle.verdict.specs.Network.{wayOf, inWay, returnable}
 use Rattle.verdict.specs.declared.Network.{Network}
 use Rattle.run.specs.State.{code, is, requested, lost, heldFirm, liveAt}
 use Rattle.run.specs.Orders.{ready}

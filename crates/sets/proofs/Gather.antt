@@ -12,10 +12,11 @@ use lib.Bits.{bitOr, or-shifted-r}
 use lib.Count.{ones, ones-cat}
 use lib.ListN.{length}
 use Rattle.bounded.specs.Bounded.{one, count, listed}
-use Rattle.bounded.proofs.Bools.{which, last?}
+use Rattle.bounded.proofs.Bools.{which, last?, one-le, one-test}
 use Rattle.bounded.proofs.Lists.{listed-length}
+use Rattle.bounded.proofs.Sums.{count-le}
 use Rattle.sets.specs.Sets.{member, gather, sizeOf}
-use Rattle.sets.proofs.Members.{bit-top, bit-low, member-past, same-set}
+use Rattle.sets.proofs.Members.{bit-top, bit-low, member-past, same-set, fits-more}
 
 module _ (f : ℕ → Bool) where
   pub gather-lt : (n : ℕ) → gather f n < 2 ^ n
@@ -29,17 +30,11 @@ module _ (f : ℕ → Bool) where
   unfolding gather
   gather-zero = refl
 
-  digit-lt : (n : ℕ) → one (f n) < 2
-  digit-lt n = ⊎-elim (λ (e : f n ≡ true). rw e (omega arith)) (λ (e : f n ≡ false). rw e (omega arith)) (which (f n))
-
-  digit-test : (n : ℕ) → eqb (one (f n)) 1 ≡ f n
-  digit-test n = ⊎-elim (λ (e : f n ≡ true). rw e) (λ (e : f n ≡ false). rw e) (which (f n))
-
   pub member-gather : (n i : ℕ) → i < n → member (gather f n) i ≡ f i
   unfolding gather member
   member-gather zero i h = absurd (not-suc-le-zero h)
   member-gather (suc n) i h =
-      ⊎-elim (λ (q : i ≡ n). rw q (ap (λ (x : ℕ). eqb x 1) (bit-top n (one (f n)) (gather f n) (digit-lt n) (gather-lt n)) ∙ digit-test n))
+      ⊎-elim (λ (q : i ≡ n). rw q (ap (λ (x : ℕ). eqb x 1) (bit-top n (one (f n)) (gather f n) (omega (arith, one-le (f n))) (gather-lt n)) ∙ one-test (f n)))
       (λ (l : i < n). ap (λ (x : ℕ). eqb x 1) (bit-low i n (one (f n)) (gather f n) l) ∙ member-gather n i l)
       (last? h)
 
@@ -81,3 +76,10 @@ ones-size s h = ones-count 64 s h
 pub size-listed : (s : ℕ) → sizeOf s ≡ length (listed (member s) 64)
 unfolding sizeOf
 size-listed s = sym (listed-length (member s) 64)
+
+pub size-small : (s : ℕ) → sizeOf s ≤ 64
+unfolding sizeOf
+size-small s = count-le (member s) 64
+
+pub size-le : (n s : ℕ) → n ≤ 64 → s < 2 ^ n → sizeOf s ≤ n
+size-le n s h l = omega (arith, ones-size s (fits-more s n 64 l h), ones-count n s l, count-le (member s) n)

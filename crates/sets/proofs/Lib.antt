@@ -1,6 +1,7 @@
 pub mod Members
 pub mod Gather
+pub mod Facts
 pub mod Operations
 pub mod Whole
+pub mod Insert
 pub mod Table
-pub mod Arrays

@@ -1,10 +1,10 @@
 -- The laws of `member`: the bits of a number, of `&`, of `|`, of `^`; a set is known by its members.
 -- Assumes nothing.
 use mathlib.Core.Path.{_≡_, refl, sym, ap, _∙_}
-use mathlib.Core.Logic.{_⊎_, inl, inr, ⊎-elim}
-use mathlib.Core.Bool.{Bool, true, false, not, _&&_, _||_}
+use mathlib.Core.Logic.{⊎-elim}
+use mathlib.Core.Bool.{Bool, true, false, not, _&&_, _||_, cond}
 use Prim.Native.Nat.{ℕ, zero, suc, _+_, _-_, _*_, _/_, _%_, _^_, _≤_, _<_, min, max}
-use native.Mathlib.Nat.{le-of-suc-le-suc, not-suc-le-zero, eq-or-lt-of-le, mod-lt, mod-eq-of-lt, div-eq-of-lt, div-one, mul-assoc, mul-add-mod-self-right, lt-of-lt-of-le, pow-suc, zero-lt-suc}
+use native.Mathlib.Nat.{eq-or-lt-of-le, mod-lt, mod-eq-of-lt, div-eq-of-lt, div-one, mul-assoc, mul-add-mod-self-right, lt-of-lt-of-le, pow-suc, zero-lt-suc}
 use native.Mathlib.Omega.{arith}
 use borrow.Author.Tests.{eq-eqb, ne-eqb}
 use lib.Dec.{eqb}
@@ -12,16 +12,15 @@ use lib.Arith.{digits-mod, lt-one}
 use lib.Pow.{pow-pos, pow-mono, pow-add, shr-shr, high, field}
 use lib.Bits.{bitAnd, bitOr, bitXor, differ, and-step, or-step, xor-step, and-shr, or-shr, xor-shr}
 use Rattle.sets.specs.Sets.{member}
-use Rattle.bounded.proofs.Bools.{clash, split?}
+use Rattle.bounded.proofs.Bools.{clash, split?, binary, and-true, and-no-r}
 
 pub two-pos : zero < 2
 two-pos = zero-lt-suc 1
 
--- a digit below 2 is 0 or 1
-pub binary : {x : ℕ} → x < 2 → (x ≡ 0) ⊎ (x ≡ 1)
-binary {x = zero} h = inl refl
-binary {x = suc zero} h = inr refl
-binary {x = suc (suc x)} h = absurd (not-suc-le-zero (le-of-suc-le-suc (le-of-suc-le-suc h)))
+-- ---- a set of the first i is one of the first j
+
+pub fits-more : (s i j : ℕ) → s < 2 ^ i → i ≤ j → s < 2 ^ j
+fits-more s i j h k = lt-of-lt-of-le h (pow-mono k)
 
 -- ---- a bit of b * 2 ^ n + g, where g is below 2 ^ n
 
@@ -40,7 +39,7 @@ bit-low i n b g h =
     ∙ field g 1 i
 
 bit-past : (i n s : ℕ) → s < 2 ^ n → n ≤ i → s / 2 ^ i % 2 ≡ 0
-bit-past i n s h l = ap (λ (x : ℕ). x % 2) (div-eq-of-lt (lt-of-lt-of-le h (pow-mono l)))
+bit-past i n s h l = ap (λ (x : ℕ). x % 2) (div-eq-of-lt (fits-more s n i h l))
 
 -- ---- member, of `&`, of `|`, of a power, of what is too small
 
@@ -90,6 +89,15 @@ member-past s n i h l = ap (λ (x : ℕ). eqb x 1) (bit-past i n s h l)
 
 pub member-zero : (i : ℕ) → member 0 i ≡ false
 member-zero i = member-past 0 0 i (omega arith) (omega arith)
+
+-- s where t holds and no number elsewhere; y, or no number where t holds
+pub member-where : (t : Bool) (s b : ℕ) → member (cond t s 0) b ≡ t && member s b
+member-where true s b = refl
+member-where false s b = member-zero b
+
+pub member-unless : (t : Bool) (y i : ℕ) (x : Bool) → member y i ≡ x → member (cond t 0 y) i ≡ x && not t
+member-unless true y i x e = member-zero i ∙ sym (and-no-r x false refl)
+member-unless false y i x e = e ∙ sym (and-true x)
 
 -- ---- a set is known by its members
 

@@ -7,18 +7,18 @@ use mathlib.Core.List.{List}
 use Prim.Native.Nat.{ℕ, zero, suc, _+_, _/_, _%_, _^_, _<_, suc-le-suc}
 use native.Mathlib.Nat.{mod-lt, lt-of-le-of-lt, not-suc-le-zero, le-of-suc-le-suc}
 use native.Mathlib.Omega.{arith}
-use borrow.Author.Tests.{eqb-true, eq-eqb, ne-eqb}
+use borrow.Author.Tests.{eqb-true, eq-eqb, ne-eqb, not-true}
 use lib.Dec.{eqb}
 use lib.ListN.{getD}
 use lib.Pow.{pow-lt}
 use lib.Bits.{bitAnd, bitOr, bitXor, and-le-l, or-lt, xor-lt}
 use lib.Count.{trailingZeros, under}
-use Rattle.bounded.specs.Bounded.{imp, any, all, first, table}
-use Rattle.bounded.proofs.Bools.{which, clash, same-test, not-t}
-use Rattle.bounded.proofs.Tests.{all-i, all-e, any-n, any-e}
+use Rattle.bounded.specs.Bounded.{all, first, table}
+use Rattle.bounded.proofs.Bools.{same-test, binary, imp-i, imp-e, and-l, and-r, _&_}
+use Rattle.bounded.proofs.Tests.{all-i, all-e}
 use Rattle.bounded.proofs.First.{Least, first-is}
 use Rattle.sets.specs.Sets.{alone, member, gather, inserted, insert, only, without, kept, subsetOf, apart, disjointFrom}
-use Rattle.sets.proofs.Members.{two-pos, binary, unlike, member-and, member-or, member-xor, member-zero, member-power, member-suc, low-digit, same-set}
+use Rattle.sets.proofs.Members.{two-pos, unlike, member-and, member-or, member-xor, member-zero, member-power, member-suc, low-digit, same-set}
 use Rattle.sets.proofs.Gather.{gather-is, gather-lt, gather-put, member-gather}
 use Rattle.sets.proofs.Table.{alone-in}
 
@@ -36,9 +36,9 @@ put-alone t e s i h hs = ap (λ (x : ℕ). bitOr s x) (alone-in t e i h) ∙ put
 pub gather-alone : (t : List ℕ) → t ≡ table alone 64 → (f : ℕ → Bool) (n : ℕ) → n < 64 → f n ≡ true → bitOr (gather f n) (getD t n 0) ≡ gather f (n + 1)
 gather-alone t e f n h p = ap (λ (x : ℕ). bitOr (gather f n) x) (alone-in t e n h) ∙ gather-put f n p
 
-pub insert-lt : (s i : ℕ) → insert s i < 2 ^ 64
+pub insert-fits : (s i : ℕ) → insert s i < 2 ^ 64
 unfolding insert
-insert-lt s i = gather-lt (inserted s i) 64
+insert-fits s i = gather-lt (inserted s i) 64
 
 pub member-insert : (s i j : ℕ) → j < 64 → member (insert s i) j ≡ member s j || eqb j i
 unfolding insert inserted
@@ -59,22 +59,16 @@ pub member-without : (a b i : ℕ) → i < 64 → member (without a b) i ≡ mem
 unfolding without only
 member-without a b i h = member-gather (only a b) 64 i h
 
-part-test : (p q : Bool) → p && q ≡ p → imp p q ≡ true
-part-test true q e = e
-part-test false q e = refl
-
-test-part : (p q : Bool) → imp p q ≡ true → p && q ≡ p
-test-part true q e = e
-test-part false q e = refl
-
 -- `a & b == a` where a is part of b
 pub and-subset : (a b : ℕ) → a < 2 ^ 64 → eqb (bitAnd a b) a ≡ subsetOf a b
 unfolding subsetOf kept
 and-subset a b ha =
     same-test (eqb (bitAnd a b) a) (all (kept a b) 64)
-    (λ e. all-i (kept a b) 64 (λ i l. part-test (member a i) (member b i) (sym (member-and a b i) ∙ ap (λ (x : ℕ). member x i) (eqb-true (bitAnd a b) a e))))
+    (λ e. all-i (kept a b) 64 (λ i l. imp-i (member a i) (member b i) (λ p.
+    and-r (member a i) (member b i) (sym (member-and a b i) ∙ ap (λ (x : ℕ). member x i) (eqb-true (bitAnd a b) a e) ∙ p))))
     (λ e. eq-eqb (bitAnd a b) a (same-set 64 (bitAnd a b) a (lt-of-le-of-lt (and-le-l a b) ha) ha
-    (λ i l. member-and a b i ∙ test-part (member a i) (member b i) (all-e (kept a b) 64 e i l))))
+    (λ i l. member-and a b i ∙ same-test (member a i && member b i) (member a i) (and-l (member a i) (member b i))
+    (λ p. p & imp-e (member a i) (member b i) (all-e (kept a b) 64 e i l) p))))
 
 -- `a & b == 0` where they have no member in common
 pub and-disjoint : (a b : ℕ) → a < 2 ^ 64 → eqb (bitAnd a b) 0 ≡ disjointFrom a b
@@ -83,16 +77,7 @@ and-disjoint a b ha =
     same-test (eqb (bitAnd a b) 0) (all (apart a b) 64)
     (λ e. all-i (apart a b) 64 (λ i l. ap not (sym (member-and a b i) ∙ ap (λ (x : ℕ). member x i) (eqb-true (bitAnd a b) 0 e) ∙ member-zero i)))
     (λ e. eq-eqb (bitAnd a b) 0 (same-set 64 (bitAnd a b) 0 (lt-of-le-of-lt (and-le-l a b) ha) (omega arith)
-    (λ i l. member-and a b i ∙ not-t (member a i && member b i) (all-e (apart a b) 64 e i l) ∙ sym (member-zero i))))
-
--- `s == 0` where nothing is a member
-pub zero-empty : (s : ℕ) → s < 2 ^ 64 → eqb s 0 ≡ not (any (member s) 64)
-zero-empty s hs =
-    ⊎-elim (λ (e : any (member s) 64 ≡ true). let w = any-e (member s) 64 e in
-    ne-eqb s 0 (λ q. clash _ (w .2) (ap (λ (x : ℕ). member x (w .0)) q ∙ member-zero (w .0))) ∙ sym (ap not e))
-    (λ (e : any (member s) 64 ≡ false).
-    eq-eqb s 0 (same-set 64 s 0 hs (omega arith) (λ i l. any-n (member s) 64 e i l ∙ sym (member-zero i))) ∙ sym (ap not e))
-    (which (any (member s) 64))
+    (λ i l. member-and a b i ∙ not-true (member a i && member b i) (all-e (apart a b) 64 e i l) ∙ sym (member-zero i))))
 
 -- the zeros below the lowest set bit lead to the lowest member
 even-before : (s t : ℕ) → s % 2 ≡ 0 → ((j : ℕ) → j < t → member (s / 2) j ≡ false) → (j : ℕ) → j < suc t → member s j ≡ false

@@ -1,23 +1,26 @@
 -- A test of every number below n, done at once: any, all and first over a test, as operations on the gathered set.
 -- Assumes nothing.
-use mathlib.Core.Path.{_≡_, refl, sym, ap, _∙_}
+use mathlib.Core.Path.{_≡_, refl, sym, ap, _∙_, ap₂}
 use mathlib.Core.Logic.{inl, inr}
-use mathlib.Core.Bool.{Bool, true, not, _&&_, _||_}
-use Prim.Native.Nat.{ℕ, zero, suc, _-_, _^_, _≤_, _<_}
-use native.Mathlib.Nat.{lt-of-lt-of-le, lt-of-le-of-lt, pow-suc}
+use mathlib.Core.Bool.{Bool, not, _&&_, _||_, cond}
+use mathlib.Core.List.{List}
+use Prim.Native.Nat.{ℕ, zero, suc, _-_, _^_, _≤_, _<_, _+_}
+use native.Mathlib.Nat.{lt-of-le-of-lt, pow-suc}
 use native.Mathlib.Omega.{arith}
+use native.Mathlib.Numerals.{add-one}
 use borrow.Author.Tests.{lt-ltb, le-ltb}
-use lib.Dec.{eqb, ltb}
-use lib.Pow.{pow-mono, pow-pos}
+use lib.Dec.{ltb}
+use lib.Pow.{pow-pos}
 use lib.Bits.{bitAnd, bitOr, and-le-l, or-lt}
+use lib.ListN.{getD}
+use Rattle.bounded.proofs.Bools.{split?, and-no-l, clash, same-test, imp-i, imp-e}
+use Rattle.bounded.proofs.First.{Least, first-least, first-is}
+use Rattle.bounded.proofs.Tests.{any-i, any-e, all-i, all-e}
 use Rattle.bounded.specs.Bounded.{imp, any, all, first}
-use Rattle.bounded.proofs.Bools.{which, clash, off, same-test, split?, and-l, and-r, and-i, and-no-l, and-true, not-i, not-t, imp-i, imp-e}
-use Rattle.bounded.proofs.Tests.{any-i, any-e, any-n, all-i, all-e}
-use Rattle.bounded.proofs.First.{first-least, first-is}
-use Rattle.sets.specs.Sets.{member, gather, only, without, kept, subsetOf, apart, disjointFrom, always, allBelow}
-use Rattle.sets.proofs.Members.{member-and, member-or, same-set}
+use Rattle.sets.specs.Sets.{member, gather, only, without, always, allBelow, some, subsetOf}
+use Rattle.sets.proofs.Members.{member-and, member-or, same-set, fits-more, member-zero, member-where}
 use Rattle.sets.proofs.Gather.{gather-lt, gather-is, member-gather, member-gather-past}
-use Rattle.sets.proofs.Operations.{zero-empty}
+use Rattle.sets.proofs.Facts.{gather-e, gather-i, subset-e, subset-i, some-i, some-e}
 
 -- a member of a gathered set, wherever it stands
 pub member-gathered : (f : ℕ → Bool) (n i : ℕ) → member (gather f n) i ≡ ltb i n && f i
@@ -26,11 +29,8 @@ member-gathered f n i = elim (split? i n) [
   | inr h ↦ rw (le-ltb i n h) (member-gather-past f n i h)
 ]
 
-pub member-low : (f : ℕ → Bool) (n i : ℕ) → member (gather f n) i ≡ true → i < n
-member-low f n i e = elim (split? i n) [ inl h ↦ h | inr h ↦ clash (member (gather f n) i) e (member-gather-past f n i h) ]
-
 pub gather-fits : (f : ℕ → Bool) (n : ℕ) → n ≤ 64 → gather f n < 2 ^ 64
-gather-fits f n h = lt-of-lt-of-le (gather-lt f n) (pow-mono h)
+gather-fits f n h = fits-more (gather f n) n 64 (gather-lt f n) h
 
 -- ---- sets made from sets
 
@@ -63,77 +63,60 @@ unfolding allBelow always gather
 below-is zero = refl
 below-is (suc n) = omega (arith, below-is n, pow-suc 2 n, pow-pos n)
 
-pub member-below : (n i : ℕ) → member (allBelow n) i ≡ ltb i n
-unfolding allBelow always
-member-below n i = member-gathered always n i ∙ and-true (ltb i n)
-
 -- ---- tests at once
 
 -- some number below n passes where the gathered set is not empty
-pub any-gather : (f : ℕ → Bool) (n : ℕ) → n ≤ 64 → any f n ≡ not (eqb (gather f n) 0)
-any-gather f n h =
-    same-test (any f n) (not (eqb (gather f n) 0))
-    (λ e. let w = any-e f n e in
-    ap not (zero-empty (gather f n) (gather-fits f n h) ∙ ap not (any-i (member (gather f n)) 64 (w .0) (omega arith) (member-gather f n (w .0) (w .1) ∙ w .2))))
-    (λ e. let w = any-e (member (gather f n)) 64 (full e) in
-    let l = member-low f n (w .0) (w .2) in
-    any-i f n (w .0) l (sym (member-gather f n (w .0) l) ∙ w .2))
-  where
-    full : not (eqb (gather f n) 0) ≡ true → any (member (gather f n)) 64 ≡ true
-    full e = elim (which (any (member (gather f n)) 64)) [
-      | inl p ↦ p
-      | inr p ↦ clash (eqb (gather f n) 0) (zero-empty (gather f n) (gather-fits f n h) ∙ ap not p) (not-t (eqb (gather f n) 0) e)
-    ]
+pub any-gather : (f : ℕ → Bool) (n : ℕ) → any f n ≡ some (gather f n)
+any-gather f n =
+    same-test (any f n) (some (gather f n))
+    (λ e. let w = any-e f n e in some-i (gather f n) (w .0) (gather-i f n (w .0) (w .1) (w .2)))
+    (λ e. let w = some-e f n e in any-i f n (w .0) (w .1) (w .2))
 
--- every number below n that passes is a member where the gathered set is a part
-pub all-subset : (f : ℕ → Bool) (t n : ℕ) → n ≤ 64 → all (λ i. imp (f i) (member t i)) n ≡ subsetOf (gather f n) t
-unfolding subsetOf kept
-all-subset f t n h =
-    same-test (all (λ i. imp (f i) (member t i)) n) (all (kept (gather f n) t) 64)
-    (λ e. all-i (kept (gather f n) t) 64 (λ i l. imp-i (member (gather f n) i) (member t i)
-    (λ m. let k = member-low f n i m in
-    imp-e (f i) (member t i) (all-e (λ i. imp (f i) (member t i)) n e i k) (sym (member-gather f n i k) ∙ m))))
-    (λ e. all-i (λ i. imp (f i) (member t i)) n (λ i l. imp-i (f i) (member t i)
-    (λ p. imp-e (member (gather f n) i) (member t i) (all-e (kept (gather f n) t) 64 e i (omega arith)) (member-gather f n i l ∙ p))))
+-- a test of every number that passes p is a test of the gathered set
+pub subset-all : (p q : ℕ → Bool) (n s t : ℕ) → n ≤ 64 → s ≡ gather p n → ((i : ℕ) → i < n → member t i ≡ q i)
+    → subsetOf s t ≡ all (λ i. imp (p i) (q i)) n
+subset-all p q n s t h e m =
+    rw e
+    (same-test (subsetOf (gather p n) t) (all (λ i. imp (p i) (q i)) n)
+    (λ a. all-i (λ i. imp (p i) (q i)) n (λ i l. imp-i (p i) (q i) (λ z. sym (m i l) ∙ subset-e (gather p n) t i a (omega arith) (gather-i p n i l z))))
+    (λ a. subset-i (gather p n) t (λ i l z. let w = gather-e p n i z in
+    m i (w .0) ∙ imp-e (p i) (q i) (all-e (λ i. imp (p i) (q i)) n a i (w .0)) (w .1))))
 
--- some number below n passes and is a member where the gathered set meets the other
-pub any-meets : (f : ℕ → Bool) (t n : ℕ) → n ≤ 64 → any (λ i. member t i && f i) n ≡ not (disjointFrom t (gather f n))
-unfolding disjointFrom apart
-any-meets f t n h =
-    same-test (any (λ i. member t i && f i) n) (not (all (apart t (gather f n)) 64))
-    (λ e. let w = any-e (λ i. member t i && f i) n e in
-    not-i (all (apart t (gather f n)) 64) (off (all (apart t (gather f n)) 64) (λ a.
-    clash (member t (w .0) && member (gather f n) (w .0))
-    (and-i (member t (w .0)) (member (gather f n) (w .0)) (and-l (member t (w .0)) (f (w .0)) (w .2))
-    (member-gather f n (w .0) (w .1) ∙ and-r (member t (w .0)) (f (w .0)) (w .2)))
-    (not-t (member t (w .0) && member (gather f n) (w .0)) (all-e (apart t (gather f n)) 64 a (w .0) (omega arith))))))
-    (λ e. elim (which (any (λ i. member t i && f i) n)) [
-      | inl p ↦ p
-      | inr p ↦ clash (all (apart t (gather f n)) 64)
-          (all-i (apart t (gather f n)) 64 (λ i l. not-i (member t i && member (gather f n) i) (off (member t i && member (gather f n) i)
-          (λ m. let g = and-r (member t i) (member (gather f n) i) m in let k = member-low f n i g in
-          clash (member t i && f i) (and-i (member t i) (f i) (and-l (member t i) (member (gather f n) i) m) (sym (member-gather f n i k) ∙ g))
-          (any-n (λ i. member t i && f i) n p i k)))))
-          (not-t (all (apart t (gather f n)) 64) e)
-    ])
+-- ---- the lowest member of a gathered set, found or not
 
--- the lowest member of a gathered set: the first that passes, where one does
-pub lowest-gather : (f : ℕ → Bool) (n : ℕ) → n ≤ 64 → first f n < n → first (member (gather f n)) 64 ≡ first f n
-lowest-gather f n h l =
-    let p = first-least f n in
-    first-is (member (gather f n)) 64 (first f n)
-    (record {
-      high = omega arith;
-      before = λ j k. member-gather f n j (omega arith) ∙ p .before j k;
-      at = λ k. member-gather f n (first f n) l ∙ p .at l;
-    })
+module _ (f : ℕ → Bool) (n b : ℕ) (h : n ≤ 64) (e : b ≡ first (member (gather f n)) 64) where
+  low : Least (member (gather f n)) 64 b
+  low = rw e (first-least (member (gather f n)) 64)
 
-pub lowest-none : (f : ℕ → Bool) (n : ℕ) → n ≤ 64 → n ≤ first f n → first (member (gather f n)) 64 ≡ 64
-lowest-none f n h l =
-    let p = first-least f n in
-    first-is (member (gather f n)) 64 64
-    (record {
-      high = omega arith;
-      before = λ j k. elim (split? j n) [ inl b ↦ member-gather f n j b ∙ p .before j (omega arith) | inr b ↦ member-gather-past f n j b ];
-      at = λ k. absurd (omega arith);
-    })
+  pub lowest-hit : b < n → b ≡ first f n
+  lowest-hit l =
+      sym (first-is f n b
+      (record {
+        high = omega arith;
+        before = λ j k. sym (member-gather f n j (omega arith)) ∙ low .before j k;
+        at = λ k. sym (member-gather f n b k) ∙ low .at (omega arith);
+      }))
+
+  pub lowest-miss : n ≤ b → n ≤ first f n
+  lowest-miss l = elim (split? (first f n) n) [
+    | inl k ↦ clash (f (first f n)) (first-least f n .at k) (sym (member-gather f n (first f n) k) ∙ low .before (first f n) (omega arith))
+    | inr k ↦ k
+  ]
+
+-- ---- the union of those sets of a list that a set picks
+
+-- set v of the list is picked, and b is in it
+unfoldable pub picked : ℕ → List ℕ → ℕ → ℕ → Bool
+picked picks sets b v = member picks v && member (getD sets v 0) b
+
+pub picked-none : (picks : ℕ) (sets : List ℕ) (b : ℕ) → member 0 b ≡ any (picked picks sets b) 0
+unfolding any
+picked-none picks sets b = member-zero b
+
+pub picked-more : (picks : ℕ) (sets : List ℕ) (v s t : ℕ) → ((b : ℕ) → member s b ≡ any (picked picks sets b) v)
+    → t ≡ cond (member picks v) (getD sets v 0) 0 → (b : ℕ) → member (bitOr s t) b ≡ any (picked picks sets b) (v + 1)
+unfolding any picked
+picked-more picks sets v s t h e b =
+    rw (add-one v, e)
+    (member-or s (cond (member picks v) (getD sets v 0) 0) b
+    ∙ ap₂ (λ (p q : Bool). p || q) (h b) (member-where (member picks v) (getD sets v 0) b))

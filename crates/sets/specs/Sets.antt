@@ -26,6 +26,10 @@ always i = true
 unfoldable pub allBelow : ℕ → ℕ
 allBelow n = gather always n
 
+-- a set that is not empty
+unfoldable pub some : ℕ → Bool
+some s = not (eqb s 0)
+
 -- the set s with i put in
 unfoldable pub inserted : ℕ → ℕ → ℕ → Bool
 inserted s i j = member s j || eqb j i

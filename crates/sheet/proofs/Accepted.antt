@@ -1,47 +1,40 @@
 -- What an accepted sheet is: its plan is valid (`sheet-valid`), and its bytes are, to the last, the sheet of that plan (`sheet-accepted`).
 -- Assumes nothing.
-use Prim.Native.Nat.{ℕ, _+_, _*_, _^_}
+use Prim.Native.Nat.{ℕ, _+_, _*_}
 use mathlib.Core.Path.{_≡_, refl, sym, ap, _∙_}
 use mathlib.Core.List.{List, [], _++_, append-nil}
 use mathlib.Core.Bool.{Bool, true, false, cond}
 use native.Mathlib.Omega.{arith}
-use lib.ListN.{length, getD, take, drop, take-append-drop}
+use lib.ListN.{length, take, drop, take-append-drop}
 use lib.Dec.{eqb}
 use lib.Seq.{drop-drop, drop-length}
-use borrow.Author.Tests.{eqb-true, lt-ltb}
+use borrow.Author.Tests.{eqb-true}
 use Rattle.bounded.specs.Bounded.{sum}
-use Rattle.bounded.proofs.Bools.{clash, _&_}
-use Rattle.bounded.proofs.Tests.{all-i}
+use Rattle.bounded.proofs.Bools.{clash}
 use Rattle.plan.specs.Judging.{isFine}
-use Rattle.plan.specs.Limits.{mostBookings, mostLinks}
-use Rattle.sets.specs.Sets.{sizeOf}
-use Rattle.plan.specs.Record.{kindAt, linkAt, countAt, withinAt, countsFit, entriesFit, recordOf}
+use Rattle.plan.specs.Record.{recordOf}
 use Rattle.plan.specs.declared.Judged.{Judged}
-use Rattle.plan.specs.declared.Judged.the-variants.{Fine, Form, Count, Sequence}
+use Rattle.plan.specs.declared.Judged.the-variants.{Fine, Form, Count}
 use Rattle.plan.specs.declared.Judgement.the-variants as R
-use Rattle.plan.proofs.LimitLaws.{Limited, limited, limited-i, within-i}
-use Rattle.plan.proofs.Valid.{Valid, valid, size-le}
+use Rattle.plan.proofs.LimitLaws.{Limited}
+use Rattle.plan.proofs.Valid.{Valid, valid, fine-i}
+use Rattle.plan.proofs.RecordLaws.{fine-is}
 use Rattle.lines.specs.Head.{headOf}
 use Rattle.lines.specs.Kinds.{kindsText, noKinds}
 use Rattle.lines.specs.Links.{linksText, noLinks}
 use Rattle.lines.specs.declared.Head.{Head}
 use Rattle.lines.specs.declared.Head.the-variants as H
-use Rattle.lines.proofs.RoundTrip.{head-accepted}
+use Rattle.lines.proofs.RoundTrip.{head-accepted, head-limits}
 use Rattle.lines.proofs.AllLines.{KindsAre, kinds-accepted, LinksAre, links-accepted}
+use Rattle.lines.proofs.Lengths.{no-kinds-length, no-links-length}
 use Rattle.ways.specs.WayText.{waysText, waysLength, sizeAt}
 use Rattle.ways.specs.Ways.{countsListed}
-use Rattle.ways.proofs.WaysRoundTrip.{Writable, Read, all-accepted}
+use Rattle.ways.proofs.WaysRoundTrip.{Read, all-accepted}
 use Rattle.sheet.specs.Sheet.{linksPlace, waysPlace, kindsIn, linksIn, waysIn, planOf, refusedOf, endOf, bodyOf, sheetOf}
 use Rattle.sheet.specs.Text.{sheetText}
 use Rattle.sheet.specs.declared.Sheet.{Sheet}
 
 -- ---- what was found on the way to an accepted sheet
-
-pub fine-is : (j : Judged) → isFine j ≡ true → j ≡ Fine
-fine-is Fine e = refl
-fine-is (Form l) e = clash true refl (sym e)
-fine-is (Count l) e = clash true refl (sym e)
-fine-is (Sequence l) e = clash true refl (sym e)
 
 record Stages (s : List ℕ) : Type 0 where
   n : ℕ
@@ -94,30 +87,22 @@ module _ (s : List ℕ) where
 
 -- ---- the parts of an accepted sheet
 
-no-kinds : length noKinds ≡ mostBookings
-unfolding noKinds
-no-kinds = refl
-
-no-links : length noLinks ≡ mostLinks
-unfolding noLinks
-no-links = refl
-
 module _ (s : List ℕ) (t : Stages s) where
   fits : Limited (t .n) (t .m) (t .a)
-  fits = limited (t .n) (t .m) (t .a) (head-accepted (take 14 s) (t .n) (t .m) (t .a) (t .head) .fit)
+  fits = head-limits (take 14 s) (headOf (take 14 s)) (t .n) (t .m) (t .a) refl (t .head)
 
   the-kinds : KindsAre (t .n) 0 (drop 14 s) noKinds (kindsIn (t .n) s .kind)
   unfolding kindsIn
   the-kinds =
-      kinds-accepted (t .n) 0 (drop 14 s) noKinds (kindsIn (t .n) s .kind) (omega (arith, no-kinds, fits .bookings))
+      kinds-accepted (t .n) 0 (drop 14 s) noKinds (kindsIn (t .n) s .kind) (omega (arith, no-kinds-length, fits .bookings))
       (ap (λ (j : Judged). record { judged = j; kind = kindsIn (t .n) s .kind }) (t .kinds))
 
   the-links : LinksAre (t .n) (t .m) 0 (drop (linksPlace (t .n)) s) 0 0 noLinks noLinks (linksIn (t .n) (t .m) s .from) (linksIn (t .n) (t .m) s .to)
   unfolding linksIn
   the-links =
       links-accepted (t .n) (t .m) 0 (drop (linksPlace (t .n)) s) 0 0 noLinks noLinks (linksIn (t .n) (t .m) s .from) (linksIn (t .n) (t .m) s .to)
-      (omega (arith, no-links, fits .links))
-      (omega (arith, no-links, fits .links))
+      (omega (arith, no-links-length, fits .links))
+      (omega (arith, no-links-length, fits .links))
       (ap (λ (j : Judged). record { judged = j; from = linksIn (t .n) (t .m) s .from; to = linksIn (t .n) (t .m) s .to }) (t .links))
 
   the-ways : Read (t .n) (t .a) (waysPlace (t .n) (t .m)) (length s) (drop (waysPlace (t .n) (t .m)) s) (waysIn (t .n) (t .m) (t .a) s .way)
@@ -130,26 +115,11 @@ module _ (s : List ℕ) (t : Stages s) where
 
   -- ---- its plan has no refusal 2 and no refusal 3
 
-  counts-fit : countsFit (planOf (t .n) (t .m) (t .a) s) ≡ true
-  unfolding countsFit countAt planOf
-  counts-fit =
-      limited-i (t .n) (t .m) (t .a) fits
-      & all-i (countAt (t .n) (waysIn (t .n) (t .m) (t .a) s .way)) (t .a)
-      (λ k h.
-      let w : Writable (t .n) (getD (waysIn (t .n) (t .m) (t .a) s .way) k 0) = the-ways .writable k h in
-      within-i 1 (sizeOf (getD (waysIn (t .n) (t .m) (t .a) s .way) k 0)) (t .n) (w .some) (size-le (t .n) _ (fits .bookings) (w .small)))
-
-  entries-fit : entriesFit (planOf (t .n) (t .m) (t .a) s) ≡ true
-  unfolding entriesFit withinAt planOf
-  entries-fit =
-      all-i (kindAt (kindsIn (t .n) s .kind)) (t .n) (λ b h. the-kinds .good b (omega arith) (omega arith))
-      & all-i (linkAt (t .n) (linksIn (t .n) (t .m) s .from) (linksIn (t .n) (t .m) s .to)) (t .m) (λ i h. the-links .good refl refl i (omega arith) (omega arith))
-      & all-i (withinAt (t .n) (waysIn (t .n) (t .m) (t .a) s .way)) (t .a)
-      (λ k h. lt-ltb (getD (waysIn (t .n) (t .m) (t .a) s .way) k 0) (2 ^ t .n) (the-ways .writable k h .small))
-
   plan-fine : recordOf (planOf (t .n) (t .m) (t .a) s) ≡ R.Fine
-  unfolding recordOf
-  plan-fine = rw (counts-fit, entries-fit)
+  unfolding planOf
+  plan-fine =
+      fine-i (planOf (t .n) (t .m) (t .a) s) fits (λ b h. the-kinds .good b (omega arith) (omega arith))
+      (λ i h. the-links .good refl refl i (omega arith) (omega arith)) (λ k h. the-ways .writable k h .small) (λ k h. the-ways .writable k h .some)
 
   -- ---- its bytes are the lines of that plan
 

@@ -6,11 +6,9 @@ use mathlib.Core.List.{List}
 use mathlib.Core.Bool.{Bool, true, false, not, cond}
 use lib.ListN.{length, take, drop}
 use lib.Dec.{eqb}
-use borrow.Author.Tests.{eq-eqb, ne-eqb}
-use Rattle.bounded.proofs.Bools.{not-t, not-f}
+use borrow.Author.Tests.{eq-eqb, ne-eqb, not-true, not-false}
 use Rattle.plan.specs.Judging.{isFine}
 use Rattle.plan.specs.declared.Judged.the-variants.{Fine, Form, Count}
-use Rattle.plan.proofs.LimitLaws.{Limited, limited}
 use Rattle.lines.specs.Head.{headOf}
 use Rattle.lines.specs.Kinds.{kindsOf, noKinds}
 use Rattle.lines.specs.Links.{linksOf, noLinks}
@@ -18,7 +16,6 @@ use Rattle.lines.specs.declared.Head.{Head}
 use Rattle.lines.specs.declared.Head.the-variants as H
 use Rattle.lines.specs.declared.Kinds.{Kinds}
 use Rattle.lines.specs.declared.Links.{Links}
-use Rattle.lines.proofs.RoundTrip.{head-accepted}
 use Rattle.ways.specs.Ways.{waysOf, noWays}
 use Rattle.ways.specs.declared.Ways.{Ways}
 use Rattle.sheet.specs.Sheet.{kindsIn, linksIn, waysIn, planOf, refusedOf, endOf, bodyOf, afterHead, sheetOf}
@@ -33,7 +30,7 @@ module _ (n m a : ℕ) (s : List ℕ) (k : Kinds) (e : k ≡ kindsOf n 0 (drop 1
 
   pub kinds-refused : not b ≡ true → (r : Sheet) → r ≡ refusedOf (k .judged) → r ≡ bodyOf n m a s
   unfolding bodyOf
-  kinds-refused q r i = i ∙ rw (kinds-are, ← t, not-t b q)
+  kinds-refused q r i = i ∙ rw (kinds-are, ← t, not-true b q)
 
   module _ (q : not b ≡ false) (l : Links) (f : l ≡ linksOf n m 0 (drop (14 + 8 * n) s) 0 0 noLinks noLinks) (c : Bool) (u : c ≡ isFine (l .judged)) where
     links-are : linksIn n m s ≡ l
@@ -42,7 +39,7 @@ module _ (n m a : ℕ) (s : List ℕ) (k : Kinds) (e : k ≡ kindsOf n 0 (drop 1
 
     pub links-refused : not c ≡ true → (r : Sheet) → r ≡ refusedOf (l .judged) → r ≡ bodyOf n m a s
     unfolding bodyOf
-    links-refused p r i = i ∙ rw (kinds-are, ← t, not-f b q, links-are, ← u, not-t c p)
+    links-refused p r i = i ∙ rw (kinds-are, ← t, not-false b q, links-are, ← u, not-true c p)
 
     module _ (p : not c ≡ false) (w : Ways) (g : w ≡ waysOf n (n + m + 2) a 0 (14 + 8 * n + 10 * m) (drop (14 + 8 * n + 10 * m) s) noWays)
         (d : Bool) (v : d ≡ isFine (w .judged)) where
@@ -52,7 +49,7 @@ module _ (n m a : ℕ) (s : List ℕ) (k : Kinds) (e : k ≡ kindsOf n 0 (drop 1
 
       pub ways-refused : not d ≡ true → (r : Sheet) → r ≡ refusedOf (w .judged) → r ≡ bodyOf n m a s
       unfolding bodyOf
-      ways-refused o r i = i ∙ rw (kinds-are, ← t, not-f b q, links-are, ← u, not-f c p, ways-are, ← v, not-t d o)
+      ways-refused o r i = i ∙ rw (kinds-are, ← t, not-false b q, links-are, ← u, not-false c p, ways-are, ← v, not-true d o)
 
       module _ (o : not d ≡ false) where
         to-the-end : bodyOf n m a s
@@ -60,7 +57,7 @@ module _ (n m a : ℕ) (s : List ℕ) (k : Kinds) (e : k ≡ kindsOf n 0 (drop 1
             (record { judged = Fine; plan = record { n = n; m = m; a = a; kind = k .kind; from = l .from; to = l .to; way = w .way } })
             (refusedOf (Form (n + m + a + 2)))
         unfolding bodyOf endOf planOf
-        to-the-end = rw (kinds-are, ← t, not-f b q, links-are, ← u, not-f c p, ways-are, ← v, not-f d o)
+        to-the-end = rw (kinds-are, ← t, not-false b q, links-are, ← u, not-false c p, ways-are, ← v, not-false d o)
 
         pub bytes-remain : (w .next ≡ length s → ⊥) → (r : Sheet) → r ≡ refusedOf (Form (n + m + a + 2)) → r ≡ bodyOf n m a s
         bytes-remain h r i = i ∙ rw (to-the-end, ne-eqb _ _ h)
@@ -85,7 +82,3 @@ module _ (s line : List ℕ) (h : Head) (p : line ≡ take 14 s) (e : h ≡ head
   module _ (n m a : ℕ) (g : h ≡ H.Counts n m a) where
     pub head-right : (r : Sheet) → r ≡ bodyOf n m a s → r ≡ sheetOf s
     head-right r i = i ∙ rw (by-head, g)
-
--- the counts of a head that was read are within the limits
-pub head-limits : (line : List ℕ) (h : Head) (n m a : ℕ) → h ≡ headOf line → h ≡ H.Counts n m a → Limited n m a
-head-limits line h n m a e g = limited n m a (head-accepted line n m a (sym e ∙ g) .fit)

@@ -6,33 +6,26 @@ use mathlib.Core.Bool.{Bool, true, false, not, _&&_, _||_, cond}
 use mathlib.Core.List.{List}
 use Prim.Native.Nat.{ℕ, zero, suc, _-_, _≤_, _<_}
 use native.Mathlib.Omega.{arith}
-use borrow.Author.Tests.{leb-true, le-leb, lt-leb, eq-eqb, ne-eqb}
+use borrow.Author.Tests.{leb-true, le-leb, lt-leb, eq-eqb, ne-eqb, not-true}
 use lib.Dec.{eqb, leb}
 use lib.Bits.{bitAnd, bitOr}
 use lib.ListN.{getD}
 use Rattle.bounded.specs.Bounded.{imp, any, all}
-use Rattle.bounded.proofs.Bools.{off, clash, and-true, and-no-r, and-l, and-r, _&_, or-l, or-go, not-i, not-t, not-f}
-use Rattle.bounded.proofs.Tests.{all-i, all-e, all-ext}
+use Rattle.bounded.proofs.Bools.{off, clash, and-l, and-r, _&_, or-l, or-go, not-i, went, or-imp}
+use Rattle.bounded.proofs.Tests.{all-i, all-e}
 use Rattle.bounded.proofs.Loops.{So-far}
-use Rattle.sets.specs.Sets.{member, gather, without, subsetOf}
-use Rattle.sets.proofs.Members.{member-zero}
+use Rattle.sets.specs.Sets.{member, gather, without, subsetOf, some}
+use Rattle.sets.proofs.Members.{member-unless}
 use Rattle.sets.proofs.Gather.{member-gather}
 use Rattle.sets.proofs.Operations.{member-without}
-use Rattle.sets.proofs.Whole.{gather-and, gather-or, gather-without, any-gather, all-subset}
+use Rattle.sets.proofs.Whole.{gather-and, gather-or, gather-without, any-gather, subset-all}
 use Rattle.verdict.specs.declared.Network.{Network}
-use Rattle.verdict.specs.Network.{wayOf, inWay, firm, exposed, returnable, some}
+use Rattle.verdict.specs.Network.{wayOf, inWay, firm, exposed, returnable}
 use Rattle.run.specs.declared.Run.{Run}
-use Rattle.run.specs.State.{is, coded, requested, lost, heldFirmAt, heldFirm, liveAt}
+use Rattle.run.specs.State.{is, coded, heldFirm, liveAt}
 use Rattle.run.specs.Orders.{ready}
 use Rattle.run.specs.Sound.{codesKnown, wayKnown, restZero, founded, allFounded, lostExposed, requestedInside, mayReturn, returningOutside, leaving, quiet, waysBefore, passedOver, earlierDead, firmInside, pending, lostPending, sound}
-use Rattle.run.proofs.Codes.{liveIn, live-in}
-
--- a test of every number that passes p is a test of the gathered set
-subset-all : (p q : ℕ → Bool) (n s t : ℕ) → n ≤ 64 → s ≡ gather p n → ((i : ℕ) → i < n → member t i ≡ q i)
-    → subsetOf s t ≡ all (λ i. imp (p i) (q i)) n
-subset-all p q n s t h e m =
-    ap (λ (x : ℕ). subsetOf x t) e ∙ sym (all-subset p t n h)
-    ∙ all-ext (λ i. imp (p i) (member t i)) (λ i. imp (p i) (q i)) n (λ i l. ap (imp (p i)) (m i l))
+use Rattle.run.proofs.Codes.{liveIn, live-in, held-firm-is}
 
 -- a code of the array is at most 4
 unfoldable pub knownIn : List ℕ → ℕ → Bool
@@ -64,17 +57,6 @@ pub record Sets-of (g : Network) (r : Run) (q h l b y w : ℕ) : Type 0 where
   pub readies : y ≡ gather (ready g r) (g .n)
   pub here : w ≡ wayOf g (r .way)
 
-either-is : (a b : Bool) → a || b ≡ imp (not a) (not (not b))
-either-is true true = refl
-either-is true false = refl
-either-is false true = refl
-either-is false false = refl
-
--- y, or no booking where t holds
-masked : (t : Bool) (y i : ℕ) (x : Bool) → member y i ≡ x → member (cond t 0 y) i ≡ x && not t
-masked true y i x e = member-zero i ∙ sym (and-no-r x false refl)
-masked false y i x e = e ∙ sym (and-true x)
-
 module _ {g : Network} {r : Run} {q h l b y w : ℕ} (s : Sets-of g r q h l b y w) where
   ready-at : (i : ℕ) → i < g .n → member y i ≡ ready g r i
   ready-at i k = ap (λ (x : ℕ). member x i) (s .readies) ∙ member-gather (ready g r) (g .n) i k
@@ -103,28 +85,28 @@ module _ {g : Network} {r : Run} {q h l b y w : ℕ} (s : Sets-of g r q h l b y 
       ∙ ap (λ (t : Bool). t && not (member (wayOf g (r .way)) i)) (member-without (g .exposed) (g .firm) i (omega (arith, s .small))))
 
   -- what is on its way out
-  leaving-set : any (leaving g r) (g .n) ≡ not (eqb (bitOr (without h w) b) 0)
+  leaving-set : any (leaving g r) (g .n) ≡ some (bitOr (without h w) b)
   unfolding leaving inWay
   leaving-set =
-      any-gather (leaving g r) (g .n) (s .small)
-      ∙ ap (λ (x : ℕ). not (eqb x 0))
+      any-gather (leaving g r) (g .n)
+      ∙ ap some
       (sym (gather-or (λ i. is r 2 i && not (member (wayOf g (r .way)) i)) (is r 4) (g .n))
       ∙ ap₂ bitOr (sym (gather-without (is r 2) (g .n) (wayOf g (r .way)) (s .small)) ∙ ap₂ without (sym (s .holds)) (sym (s .here))) (sym (s .returns)))
 
   pub quiet-is : eqb (bitOr (without h w) b) 0 || eqb q 0 ≡ quiet g r
   unfolding quiet some coded
-  quiet-is = rw (leaving-set, ← (s .requests)) (either-is (eqb (bitOr (without h w) b) 0) (eqb q 0))
+  quiet-is = rw (leaving-set, ← (s .requests)) (or-imp (eqb (bitOr (without h w) b) 0) (eqb q 0))
 
   pub firm-is : subsetOf (bitAnd h (g .firm)) w ≡ firmInside g r
-  unfolding firmInside heldFirm heldFirmAt firm
-  firm-is = ap₂ subsetOf (ap (λ (x : ℕ). bitAnd x (g .firm)) (s .holds) ∙ gather-and (is r 2) (g .n) (g .firm)) (s .here)
+  unfolding firmInside
+  firm-is = ap₂ subsetOf (held-firm-is g r h (s .holds)) (s .here)
 
   pub pending-is : subsetOf (bitAnd l w) (cond (eqb q 0) 0 y) ≡ lostPending g r
   unfolding lostPending pending some coded inWay
   pending-is =
       subset-all (λ i. is r 3 i && member (wayOf g (r .way)) i) (λ i. ready g r i && not (eqb (gather (is r 1) (g .n)) 0)) (g .n) (bitAnd l w) _ (s .small)
       (ap₂ bitAnd (s .loses) (s .here) ∙ gather-and (is r 3) (g .n) (wayOf g (r .way)))
-      (λ i k. masked (eqb q 0) y i (ready g r i) (ready-at i k) ∙ ap (λ (x : ℕ). ready g r i && not (eqb x 0)) (s .requests))
+      (λ i k. member-unless (eqb q 0) y i (ready g r i) (ready-at i k) ∙ ap (λ (x : ℕ). ready g r i && not (eqb x 0)) (s .requests))
 
 -- ---- the exits of the tests over sets
 
@@ -158,7 +140,7 @@ module _ (g : Network) (r : Run) (l f e : ℕ) (el : l ≡ gather (is r 3) (g .n
   unfolding earlierDead passedOver
   earlier-live k h t =
       sym (off (all (passedOver g r) (waysBefore g (r .way)))
-      (λ a. clash (liveAt g r k) (sym (live-in g r l f el ef k) ∙ t) (not-t (liveAt g r k) (all-e (passedOver g r) (waysBefore g (r .way)) a k (omega arith)))))
+      (λ a. clash (liveAt g r k) (sym (live-in g r l f el ef k) ∙ t) (not-true (liveAt g r k) (all-e (passedOver g r) (waysBefore g (r .way)) a k (omega arith)))))
 
   pub earlier-none : (k : ℕ) → So-far (liveIn l f (g .way)) k → e ≤ k → true ≡ earlierDead g r
   unfolding earlierDead passedOver
@@ -202,11 +184,7 @@ parts g r e =
 
 -- one sentence that fails is enough: x is what its test gave
 pub fails : (g : Network) (r : Run) (a : Bool) → (Parts g r → a ≡ true) → (x : Bool) → x ≡ a → not x ≡ true → false ≡ sound g r
-fails g r a p x e n = sym (off (sound g r) (λ s. clash a (p (parts g r s)) (sym e ∙ not-t x n)))
-
--- a sentence that holds: x is what its test gave
-pub went : {x a : Bool} → x ≡ a → not x ≡ false → a ≡ true
-went {x} p q = sym p ∙ not-f x q
+fails g r a p x e n = sym (off (sound g r) (λ s. clash a (p (parts g r s)) (sym e ∙ not-true x n)))
 
 -- the last sentence decides where all others hold
 pub sound-last : (g : Network) (r : Run) → Parts g r → lostPending g r ≡ sound g r

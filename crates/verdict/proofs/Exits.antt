@@ -1,27 +1,25 @@
 -- What the code of the check answers at each of its exits.
 -- Assumes nothing.
 use mathlib.Core.Path.{_≡_, sym, ap, _∙_}
-use mathlib.Core.Logic.{inl, inr}
 use mathlib.Core.Bool.{Bool, true, false, not, _&&_}
 use mathlib.Core.List.{List}
 use Prim.Native.Nat.{ℕ, suc, _+_, _≤_, _<_}
 use native.Mathlib.Numerals.{add-one}
 use native.Mathlib.Omega.{arith}
-use borrow.Author.Tests.{eq-eqb, ne-eqb, ltb-true, lt-ltb, le-ltb}
+use borrow.Author.Tests.{eq-eqb, ne-eqb, lt-ltb, le-ltb, not-true, not-false}
 use lib.Dec.{eqb, ltb}
 use lib.Bits.{bitAnd, bitOr}
 use lib.ListN.{getD}
 use Rattle.bounded.specs.Bounded.{any, first}
-use Rattle.bounded.proofs.Bools.{clash, same-test, not-t, not-f, and-no-l, and-no-r, and-go, split?}
-use Rattle.bounded.proofs.Tests.{any-i, any-e}
-use Rattle.bounded.proofs.First.{first-least}
-use Rattle.sets.specs.Sets.{member, gather, without, always, allBelow}
+use Rattle.bounded.proofs.Bools.{and-no-l, and-no-r, and-go}
+use Rattle.bounded.proofs.First.{any-first}
+use Rattle.sets.specs.Sets.{member, gather, without, always, allBelow, some}
 use Rattle.sets.proofs.Members.{member-and}
 use Rattle.sets.proofs.Gather.{member-gather}
-use Rattle.sets.proofs.Whole.{gather-ext, gather-without, lowest-gather, lowest-none}
+use Rattle.sets.proofs.Whole.{gather-ext, gather-without, lowest-hit, lowest-miss}
 use Rattle.verdict.specs.declared.Network.{Network}
 use Rattle.verdict.specs.declared.Verdict.the-variants.{Pass, Circular, Unclosed, Unused, Repeated, Stranding}
-use Rattle.verdict.specs.Network.{wayOf, inWay, before, pre, exposed, some}
+use Rattle.verdict.specs.Network.{wayOf, inWay, before, pre, exposed}
 use Rattle.verdict.specs.Check.{circular, gap, unclosed, usedBy, unused, sameWay, repeated, staying, laterRefuge, stranding, strands, check}
 use Rattle.verdict.specs.Parts.{circularIn, gapIn, unclosedIn, sameIn, repeatedIn, usedIn, usedBelow, Spans, leadsAll, sheltersAfter}
 use Rattle.verdict.proofs.Parts.{staying-same, refuges-same}
@@ -35,7 +33,7 @@ module _ (g : Network) (k x : ℕ) where
 
   pub not-exposed : (b : Bool) → b ≡ member (bitAnd (g .exposed) (getD (g .way) k 0)) x → not b ≡ true → false ≡ stranding g (suc k) x
   unfolding stranding
-  not-exposed b e n = sym (and-no-l (exposed g x && inWay g (suc k) x) _ (sym exposed-same ∙ sym e ∙ not-t b n))
+  not-exposed b e n = sym (and-no-l (exposed g x && inWay g (suc k) x) _ (sym exposed-same ∙ sym e ∙ not-true b n))
 
   -- S as the code finds it, by what is apart from x
   module _ (h : x < g .n) (reach apart : List ℕ) (sp : Spans (g .before) (g .n) reach apart) where
@@ -60,29 +58,11 @@ module _ (g : Network) (k x : ℕ) where
         let last : r ≡ any (laterRefuge g (suc k) x) (g .a) = rw (el, in-s, add-one) at er ∙ refuges-same g k x h reach apart sp in
         ap not last
         ∙ and-go (not (eqb (staying g (suc k) x) 0)) _ (ap not (ne-eqb (staying g (suc k) x) 0 (λ z. ns (in-s ∙ z))))
-        ∙ and-go (exposed g x && inWay g (suc k) x) _ (sym exposed-same ∙ sym e ∙ not-f b nb)
-
--- some number below n passes where the first that passes is below n
-any-first : (f : ℕ → Bool) (n : ℕ) → ltb (first f n) n ≡ any f n
-any-first f n =
-    same-test (ltb (first f n) n) (any f n)
-    (λ e. let l = ltb-true (first f n) n e in any-i f n (first f n) l (first-least f n .at l))
-    (λ e. let w = any-e f n e in elim (split? (first f n) n) [
-      | inl l ↦ lt-ltb (first f n) n l
-      | inr l ↦ clash (f (w .0)) (w .2) (first-least f n .before (w .0) (omega arith))
-    ])
+        ∙ and-go (exposed g x && inWay g (suc k) x) _ (sym exposed-same ∙ sym e ∙ not-false b nb)
 
 pub strands-same : (g : Network) (k r : ℕ) → r ≡ first (stranding g (suc k)) (g .n) → ltb r (g .n) ≡ strands g k
 unfolding strands
 strands-same g k r e = rw e (any-first (stranding g (suc k)) (g .n))
-
--- ---- the lowest member of a gathered set, found or not
-
-low-hit : (f : ℕ → Bool) (n b : ℕ) → n ≤ 64 → b ≡ first (member (gather f n)) 64 → b < n → b ≡ first f n
-low-hit f n b h e l = elim (split? (first f n) n) [ inl k ↦ e ∙ lowest-gather f n h k | inr k ↦ absurd (omega (arith, e, lowest-none f n h k)) ]
-
-low-miss : (f : ℕ → Bool) (n b : ℕ) → n ≤ 64 → b ≡ first (member (gather f n)) 64 → n ≤ b → n ≤ first f n
-low-miss f n b h e l = elim (split? (first f n) n) [ inl k ↦ absurd (omega (arith, e, lowest-gather f n h k)) | inr k ↦ k ]
 
 -- the bookings below n that are in no way
 unused-same : (g : Network) → g .n ≤ 64 → without (allBelow (g .n)) (gather (usedBelow (g .way) (g .a)) 64) ≡ gather (unused g) (g .n)
@@ -110,25 +90,25 @@ module _ (g : Network) (small : g .n ≤ 64) (b4 : ℕ) (e4 : b4 ≡ first (circ
       pub check-6 : b6 < g .n → Unused b6 ≡ check g
       unfolding check circular pre before circularIn unclosed gap inWay wayOf unclosedIn gapIn
       check-6 l =
-          let q = low-hit (unused g) (g .n) b6 small lowest l in
+          let q = lowest-hit (unused g) (g .n) b6 small lowest l in
           rw (← e4, le-ltb b4 (g .n) h4, ← e5, le-ltb k5 (g .a) h5, ← q, lt-ltb b6 (g .n) l)
 
       module _ (h6 : g .n ≤ b6) (k7 : ℕ) (e7 : k7 ≡ first (repeatedIn (g .way)) (g .a)) where
         pub check-7 : k7 < g .a → Repeated (k7 + 1) ≡ check g
         unfolding check circular pre before circularIn unclosed gap inWay wayOf unclosedIn gapIn repeated sameWay repeatedIn sameIn
         check-7 l =
-            let q = low-miss (unused g) (g .n) b6 small lowest h6 in
+            let q = lowest-miss (unused g) (g .n) b6 small lowest h6 in
             rw (← e4, le-ltb b4 (g .n) h4, ← e5, le-ltb k5 (g .a) h5, le-ltb (first (unused g) (g .n)) (g .n) q, ← e7, lt-ltb k7 (g .a) l, add-one)
 
         module _ (h7 : g .a ≤ k7) (k8 : ℕ) (e8 : k8 ≡ first (strands g) (g .a)) where
           pub check-8 : k8 < g .a → (b8 : ℕ) → b8 ≡ first (stranding g (suc k8)) (g .n) → Stranding (k8 + 1) b8 ≡ check g
           unfolding check circular pre before circularIn unclosed gap inWay wayOf unclosedIn gapIn repeated sameWay repeatedIn sameIn
           check-8 l b8 p =
-              let q = low-miss (unused g) (g .n) b6 small lowest h6 in
+              let q = lowest-miss (unused g) (g .n) b6 small lowest h6 in
               rw (← e4, le-ltb b4 (g .n) h4, ← e5, le-ltb k5 (g .a) h5, le-ltb (first (unused g) (g .n)) (g .n) q, ← e7, le-ltb k7 (g .a) h7, ← e8, lt-ltb k8 (g .a) l, ← p, add-one)
 
           pub check-pass : g .a ≤ k8 → Pass ≡ check g
           unfolding check circular pre before circularIn unclosed gap inWay wayOf unclosedIn gapIn repeated sameWay repeatedIn sameIn
           check-pass l =
-              let q = low-miss (unused g) (g .n) b6 small lowest h6 in
+              let q = lowest-miss (unused g) (g .n) b6 small lowest h6 in
               rw (← e4, le-ltb b4 (g .n) h4, ← e5, le-ltb k5 (g .a) h5, le-ltb (first (unused g) (g .n)) (g .n) q, ← e7, le-ltb k7 (g .a) h7, ← e8, le-ltb k8 (g .a) l)

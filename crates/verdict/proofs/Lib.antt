@@ -1,4 +1,3 @@
-pub mod Members
 pub mod Facts
 pub mod Pass
 pub mod Links

@@ -11,7 +11,7 @@ use lib.Dec.{eqb}
 use lib.ListN.{length, getD, set, replicate, getD-replicate}
 use lib.Seq.{getD-set-same, getD-set-other}
 use Rattle.bounded.specs.Bounded.{any}
-use Rattle.bounded.proofs.Bools.{same?, same-test, and-l, and-i, and-no-r, or-false}
+use Rattle.bounded.proofs.Bools.{same?, same-test, and-l, and-no-r, or-false, _&_}
 use Rattle.bounded.proofs.Tests.{any-suc}
 use Rattle.sets.specs.Sets.{gather, inserted, insert}
 use Rattle.sets.proofs.Gather.{gather-lt, member-gather}
@@ -41,7 +41,7 @@ module _ (us vs : List ℕ) where
       same-test (eqb (getD us i 0) (suc u) && eqb (getD vs i 0) (suc (getD vs i 0 - 1))) (eqb u (getD us i 0 - 1))
       (λ e. let p : getD us i 0 ≡ suc u = eqb-true (getD us i 0) (suc u) (and-l (eqb (getD us i 0) (suc u)) _ e) in eq-eqb u (getD us i 0 - 1) (omega arith))
       (λ e. let p : u ≡ getD us i 0 - 1 = eqb-true u (getD us i 0 - 1) e in
-      and-i _ _ (eq-eqb (getD us i 0) (suc u) (omega arith)) (eq-eqb (getD vs i 0) (suc (getD vs i 0 - 1)) (omega arith)))
+      eq-eqb (getD us i 0) (suc u) (omega arith) & (eq-eqb (getD vs i 0) (suc (getD vs i 0 - 1)) (omega arith)))
 
   elsewhere : (i v u : ℕ) → v ≢ getD vs i 0 - 1 → joins us vs v u i ≡ false
   unfolding joins

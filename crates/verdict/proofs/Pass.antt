@@ -12,12 +12,11 @@ use Rattle.bounded.proofs.Bools.{which, clash, off, and-l, and-r, _&_, or-cases
 use Rattle.bounded.proofs.Tests.{any-e, any-n, all-e}
 use Rattle.bounded.proofs.First.{first-none}
 use Rattle.sets.specs.Sets.{member, subsetOf}
+use Rattle.sets.proofs.Facts.{gather-i, subset-e, some-i}
 use Rattle.verdict.specs.Network.{wayOf, inWay, before, pre, exposed}
 use Rattle.verdict.specs.Check.{circular, gap, unclosed, unused, repeated, stays, staying, leadsTo, settledBy, safe, refuge, laterRefuge, stranding, strands, check, verdictNumber}
 use Rattle.verdict.specs.declared.Network.{Network}
 use Rattle.verdict.specs.declared.Verdict.{Verdict}
-use Rattle.verdict.specs.declared.Verdict.the-variants.{Pass}
-use Rattle.verdict.proofs.Members.{gather-i, subset-e, some-i}
 use Rattle.verdict.proofs.Facts.{Stays, Refuge, Shape, Passes, some-way}
 
 -- refusals 4 to 8 are absent
@@ -113,7 +112,3 @@ module _ (g : Network) (sh : Shape g) (cl : Clean g) where
 -- the check passes where its number is 0
 pub passes : (g : Network) → Shape g → verdictNumber (check g) ≡ 0 → Passes g
 passes g sh e = clean-passes g sh (clean g e)
-
-pub passes-pass : (g : Network) → Shape g → check g ≡ Pass → Passes g
-unfolding verdictNumber
-passes-pass g sh e = passes g sh (rw e)

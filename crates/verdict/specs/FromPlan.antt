@@ -1,6 +1,5 @@
 -- The network of a plan: its ways, its kinds as two sets, and its links closed to chains.
 -- Assumes nothing.
-use mathlib.Core.Path.{_≡_}
 use mathlib.Core.Bool.{Bool, _&&_, _||_}
 use mathlib.Core.List.{List}
 use Prim.Native.Nat.{ℕ, suc, _≤_, _<_}

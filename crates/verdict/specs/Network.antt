@@ -2,7 +2,6 @@
 -- Assumes nothing.
 use mathlib.Core.Bool.{Bool, not, _&&_}
 use Prim.Native.Nat.{ℕ, zero, suc}
-use lib.Dec.{eqb}
 use lib.ListN.{getD}
 use Rattle.sets.specs.Sets.{member}
 use Rattle.verdict.specs.declared.Network.{Network}
@@ -40,7 +39,3 @@ returnable g b = exposed g b && not (firm g b)
 -- R: a refusal leaves it to be requested again
 unfoldable pub repeatable : Network → ℕ → Bool
 repeatable g b = not (exposed g b)
-
--- a set that is not empty
-unfoldable pub some : ℕ → Bool
-some s = not (eqb s 0)

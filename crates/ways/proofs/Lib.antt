@@ -1,6 +1,6 @@
 pub mod ReadLaws
 pub mod TextLaws
-pub mod Rising
+pub mod Members
 pub mod WayRoundTrip
 pub mod WaysRoundTrip
 pub mod WayNumbers

@@ -7,14 +7,13 @@ use Prim.Native.Nat.{ℕ, suc, _+_, _*_, _-_, _≤_, _<_}
 use native.Mathlib.Omega.{arith}
 use lib.ListN.{length, getD, take, drop, set, List·getD-eq-default}
 use lib.Seq.{drop-drop, getD-drop}
-use borrow.Author.Tests.{eq-eqb, ne-eqb}
+use borrow.Author.Tests.{eq-eqb, ne-eqb, not-true, not-false}
 use Rattle.bounded.specs.Bounded.{all}
-use Rattle.bounded.proofs.Bools.{clash, not-t, not-f}
-use Rattle.bounded.proofs.Loops.{All-far}
+use Rattle.bounded.proofs.Bools.{clash, went}
+use Rattle.bounded.proofs.Loops.{All-far, all-out, all-on}
 use Rattle.sets.specs.Sets.{insert}
 use Rattle.plan.specs.Limits.{within}
-use Rattle.plan.proofs.LimitLaws.{within-lo, within-hi}
-use Rattle.plan.proofs.Rows.{all-out, all-on}
+use Rattle.plan.proofs.LimitLaws.{within-hi}
 use Rattle.decimal.specs.Decimal.{fieldAt}
 use Rattle.decimal.specs.declared.Field.{Field}
 use Rattle.decimal.specs.declared.Field.the-variants.{Number, Fault}
@@ -78,13 +77,6 @@ broken-form k fields x e q = rw (← e, q)
 
 -- ---- the set of the numbers
 
--- what the test of a number's place told
-pub above-last : (lo x hi : ℕ) (b : Bool) → b ≡ within lo x hi → not b ≡ false → lo ≤ x
-above-last lo x hi b e q = within-lo lo x hi (sym e ∙ not-f b q)
-
-pub at-most : (lo x hi : ℕ) (b : Bool) → b ≡ within lo x hi → not b ≡ false → x ≤ hi
-at-most lo x hi b e q = within-hi lo x hi (sym e ∙ not-f b q)
-
 module _ (n last set k j at : ℕ) (s : List ℕ) (f : Field) (whole : Gathered) (h : j < k) (e : f ≡ fieldAt 4 (at + 4 * j) s)
     (w : gatherOf n last set (k - j) (drop (at + 4 * j) s) ≡ whole) where
   turn : afterNumber f n last (brokenOf (k - (j + 1)) (drop (at + 4 * (j + 1)) s))
@@ -101,12 +93,12 @@ module _ (n last set k j at : ℕ) (s : List ℕ) (f : Field) (whole : Gathered)
   module _ (x : ℕ) (b : Bool) (g : f ≡ Number x) (t : b ≡ within (last + 1) x n) where
     pub gather-out : (r : Gathered) → not b ≡ true → r ≡ brokenOf (k - (j + 1)) (drop (at + 4 * (j + 1)) s) → r ≡ whole
     gather-out r q z =
-        let o : within (last + 1) x n ≡ false = sym t ∙ not-t b q in
+        let o : within (last + 1) x n ≡ false = sym t ∙ not-true b q in
         z ∙ (rw (g, o) at turn)
 
     pub gather-on : (y : ℕ) → not b ≡ false → y ≡ insert set (x - 1) → gatherOf n x y (k - (j + 1)) (drop (at + 4 * (j + 1)) s) ≡ whole
     gather-on y q z =
-        let o : within (last + 1) x n ≡ true = sym t ∙ not-f b q in
+        let o : within (last + 1) x n ≡ true = went t q in
         rw z (rw (g, o) at turn)
 
 pub gather-end : (n last set k j : ℕ) (fields : List ℕ) (whole : Gathered) → k ≤ j → gatherOf n last set (k - j) fields ≡ whole → G.Set set ≡ whole
@@ -127,7 +119,7 @@ module _ (n at : ℕ) (s front : List ℕ) (f : Field) (p : front ≡ take 5 (dr
 
   module _ (k : ℕ) (g : f ≡ Number k) (b : Bool) (t : b ≡ within 1 k n) where
     pub count-out : not b ≡ true → OutOfLimits ≡ wayOf n (drop at s)
-    count-out q = rw (by-count, g, ← t, not-t b q)
+    count-out q = rw (by-count, g, ← t, not-true b q)
 
     module _ (q : not b ≡ false) (d : Bool) (w : d ≡ fedAt (at + 5 + 4 * k) s) where
       fed : fedAt (5 + 4 * k) (drop at s) ≡ d
@@ -138,12 +130,12 @@ module _ (n at : ℕ) (s front : List ℕ) (f : Field) (p : front ≡ take 5 (dr
 
       pub no-end : not d ≡ true → Malformed ≡ wayOf n (drop at s)
       unfolding membersOf
-      no-end x = rw (by-count, g, ← t, not-f b q, fed, not-t d x)
+      no-end x = rw (by-count, g, ← t, not-false b q, fed, not-true d x)
 
       module _ (x : not d ≡ false) (h : Gathered) (y : h ≡ gatherOf n 0 0 k (drop (at + 5) s)) where
         pub by-set : wayOf n (drop at s) ≡ asWay k h
         unfolding membersOf
-        by-set = rw (by-count, g, ← t, not-f b q, fed, not-f d x, drop-drop 5 at s, y)
+        by-set = rw (by-count, g, ← t, not-false b q, fed, not-false d x, drop-drop 5 at s, y)
 
 -- ---- a line that is accepted has at most n bookings
 

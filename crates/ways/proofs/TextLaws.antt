@@ -1,42 +1,22 @@
 -- The laws of the text of a way, and what its writers have in hand.
 -- Assumes nothing.
 use mathlib.Core.Path.{_≡_, refl, sym, ap, _∙_}
-use mathlib.Core.Logic.{inl, inr}
 use mathlib.Core.Bool.{Bool, true, false, cond}
 use mathlib.Core.List.{List, [], _∷_, _++_, append-nil, append-assoc}
-use Prim.Native.Nat.{ℕ, zero, suc, _+_, _*_, _-_, _≤_, _<_}
-use native.Mathlib.Nat.{eq-or-lt-of-le, le-refl, mul-suc}
+use Prim.Native.Nat.{ℕ, suc, _+_, _*_, _-_, _≤_, _<_}
 use native.Mathlib.Numerals.{add-one}
 use native.Mathlib.Omega.{arith}
 use lib.ListN.{length, getD, length-append}
 use lib.Seq.{sets}
 use Rattle.bounded.specs.Bounded.{one, sum, count, listed}
-use Rattle.bounded.proofs.Sums.{count-sum, count-le}
+use Rattle.bounded.proofs.Sums.{sum-upto, sum-most, count-upto, count-suc}
 use Rattle.bounded.proofs.Lists.{listed-length}
 use Rattle.sets.specs.Sets.{member, sizeOf}
+use Rattle.sets.proofs.Gather.{size-small}
 use Rattle.decimal.specs.Decimal.{columns}
 use Rattle.decimal.proofs.Laws.{columns-length}
 use Rattle.decimal.proofs.Stores.{sets-append}
 use Rattle.ways.specs.WayText.{members, numbersText, memberText, wayFront, wayText, waysText, sizeAt, waysLength}
-
--- ---- sums and counts to a smaller bound
-
-pub sum-upto : (f : ℕ → ℕ) (i n : ℕ) → i ≤ n → sum f i ≤ sum f n
-unfolding sum
-sum-upto f i zero h = let e : i ≡ 0 = omega arith in rw e (le-refl 0)
-sum-upto f i (suc n) h = elim (eq-or-lt-of-le h) [ inl e ↦ rw e (le-refl (sum f (suc n))) | inr l ↦ omega (arith, sum-upto f i n (omega arith)) ]
-
-pub count-upto : (f : ℕ → Bool) (i n : ℕ) → i ≤ n → count f i ≤ count f n
-count-upto f i n h = omega (arith, count-sum f i, count-sum f n, sum-upto (λ k. one (f k)) i n h)
-
-sum-most : (f : ℕ → ℕ) (n a : ℕ) → ((k : ℕ) → k < a → f k ≤ n) → sum f a ≤ n * a
-unfolding sum
-sum-most f n zero h = omega arith
-sum-most f n (suc a) h = let p : n * suc a ≡ n * a + n = mul-suc n a in omega (arith, sum-most f n a (λ k l. h k (omega arith)), h a (le-refl (suc a)))
-
-pub size-small : (s : ℕ) → sizeOf s ≤ 64
-unfolding sizeOf
-size-small s = count-le (member s) 64
 
 -- ---- numbers
 
@@ -86,10 +66,6 @@ module _ (s b : ℕ) (x : Bool) (e : x ≡ member s b) where
 
 -- ---- the members below b + 1, by those below b
 
-pub count-step : (s b : ℕ) → count (member s) (b + 1) ≡ count (member s) b + one (member s b)
-unfolding count
-count-step s b = rw add-one
-
 pub text-step : (s b : ℕ) → numbersText (listed (member s) (b + 1)) ≡ numbersText (listed (member s) b) ++ memberText s b
 unfolding listed memberText
 text-step s b = rw (add-one) (numbers-append (listed (member s) b) (cond (member s b) (b ∷ []) []))
@@ -97,10 +73,10 @@ text-step s b = rw (add-one) (numbers-append (listed (member s) b) (cond (member
 pub room-member : (s b at next size size₀ : ℕ) → b < 64 → size ≡ size₀ → next ≡ at + 4 * count (member s) b → at + 4 * sizeOf s ≤ size₀
     → next + 4 * one (member s b) ≤ size
 unfolding sizeOf
-room-member s b at next size size₀ h z e r = omega (arith, count-step s b, count-upto (member s) (b + 1) 64 (omega arith))
+room-member s b at next size size₀ h z e r = omega (arith, count-suc (member s) b, count-upto (member s) (b + 1) 64 (omega arith))
 
 pub members-next : (s b at next after : ℕ) → next ≡ at + 4 * count (member s) b → after ≡ next + 4 * one (member s b) → after ≡ at + 4 * count (member s) (b + 1)
-members-next s b at next after e f = omega (arith, count-step s b)
+members-next s b at next after e f = omega (arith, count-suc (member s) b)
 
 pub members-on : (s b at next : ℕ) (buf₀ buf buf′ : List ℕ) → next ≡ at + 4 * count (member s) b → buf ≡ sets buf₀ at (numbersText (listed (member s) b))
     → buf′ ≡ sets buf next (memberText s b) → buf′ ≡ sets buf₀ at (numbersText (listed (member s) (b + 1)))
@@ -156,6 +132,10 @@ length-upto ws i a h = omega (arith, sum-upto (sizeAt ws) i a h)
 pub length-most : (n a : ℕ) (ws : List ℕ) → ((k : ℕ) → k < a → sizeOf (getD ws k 0) ≤ n) → waysLength a ws ≤ 6 * a + 4 * (n * a)
 unfolding waysLength sizeAt
 length-most n a ws h = omega (arith, sum-most (sizeAt ws) n a h)
+
+-- whatever the sets are, their lines take no more than this
+pub ways-most : (k a : ℕ) (ws : List ℕ) → k ≡ waysLength a ws → k ≤ 262 * a
+ways-most k a ws e = omega (arith, length-most 64 a ws (λ i h. size-small (getD ws i 0)))
 
 pub size-next : (ws : List ℕ) (i total k : ℕ) → total ≡ waysLength i ws → k ≡ sizeOf (getD ws i 0) → total + 6 + 4 * k ≡ waysLength (i + 1) ws
 size-next ws i total k e f = omega (arith, length-step ws i)

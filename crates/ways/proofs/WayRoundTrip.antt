@@ -8,20 +8,22 @@ use Prim.Native.Nat.{ℕ, zero, suc, _+_, _*_, _-_, _^_, _≤_, _<_}
 use native.Mathlib.Numerals.{add-one}
 use native.Mathlib.Omega.{arith}
 use lib.Dec.{eqb}
-use lib.ListN.{length, getD, take, drop, length-append, length-take, take-append-drop, List·getD-eq-default}
+use lib.ListN.{length, getD, take, drop, length-append, take-append-drop, List·getD-eq-default, length-take}
 use lib.Seq.{take-at, drop-at, getD-at, take-all, take-add, drop-drop, drop-cons}
 use borrow.Author.Tests.{eqb-true}
 use Rattle.bounded.specs.Bounded.{all}
 use Rattle.bounded.proofs.Bools.{clash, split?}
+use Rattle.bounded.proofs.Lists.{Rising, listed-rises, none, more}
 use Rattle.sets.specs.Sets.{member, insert, sizeOf}
-use Rattle.sets.proofs.Gather.{size-listed}
+use Rattle.sets.proofs.Gather.{size-listed, size-le}
+use Rattle.sets.proofs.Insert.{insertAll, insert-all-lt}
+use Rattle.sets.proofs.Members.{fits-more}
 use Rattle.plan.specs.Limits.{within}
 use Rattle.plan.proofs.LimitLaws.{within-lo, within-hi, within-i}
-use Rattle.plan.proofs.Valid.{small-set, size-le}
 use Rattle.decimal.specs.Decimal.{columns, fieldOf, fieldAt, numberAt}
 use Rattle.decimal.specs.declared.Field.{Field}
 use Rattle.decimal.specs.declared.Field.the-variants.{Number, Fault}
-use Rattle.decimal.proofs.Fields.{number-in}
+use Rattle.decimal.proofs.Fields.{number-in, field-front, field-text}
 use Rattle.decimal.proofs.Laws.{columns-length, written-read, read-written}
 use Rattle.ways.specs.WayText.{members, numbersText, wayFront, wayText}
 use Rattle.ways.specs.Way.{countOf, numberThere, brokenOf, afterNumber, gatherOf, fedAt, asWay, membersOf, afterCount, wayOf}
@@ -29,14 +31,9 @@ use Rattle.ways.specs.declared.Gathered.{Gathered}
 use Rattle.ways.specs.declared.Gathered.the-variants as G
 use Rattle.ways.specs.declared.Way.the-variants.{Members, Malformed, OutOfLimits, OutOfSequence}
 use Rattle.ways.proofs.TextLaws.{members-length, front-length}
-use Rattle.ways.proofs.Rising.{Rising, none, more, insertAll, listed-rises, members-below, insert-members, members-insert-all, insert-all-lt, members-zero}
+use Rattle.ways.proofs.Members.{members-below, insert-members, members-insert-all, members-zero}
 
 -- ---- what is written is read
-
--- a field in front of a text
-field-front : (x : ℕ) (rest : List ℕ) → x < 10 ^ 4 → fieldAt 4 0 (columns 4 x ++ rest) ≡ Number x
-unfolding fieldAt
-field-front x rest h = rw (take-at (columns 4 x) rest 4 (columns-length 4 x)) (written-read 4 x h)
 
 pub gather-text : (n l s : ℕ) (bs rest : List ℕ) → n ≤ 64 → Rising n l bs → gatherOf n l s (length bs) (numbersText bs ++ rest) ≡ G.Set (insertAll s bs)
 unfolding gatherOf numbersText insertAll
@@ -45,7 +42,7 @@ gather-text n l s (b ∷ bs) rest h (more p q r) =
     let a : (columns 4 (b + 1) ++ numbersText bs) ++ rest ≡ columns 4 (b + 1) ++ (numbersText bs ++ rest) = append-assoc (columns 4 (b + 1)) (numbersText bs) rest in
     let d : drop 4 (columns 4 (b + 1) ++ (numbersText bs ++ rest)) ≡ numbersText bs ++ rest = drop-at (columns 4 (b + 1)) (numbersText bs ++ rest) 4 (columns-length 4 (b + 1)) in
     let i : b + 1 - 1 ≡ b = omega arith in
-    rw (a, field-front (b + 1) (numbersText bs ++ rest) (omega arith), within-i (l + 1) (b + 1) n (omega arith) (omega arith), d, i)
+    rw (a, field-front 4 (b + 1) (numbersText bs ++ rest) (omega arith), within-i (l + 1) (b + 1) n (omega arith) (omega arith), d, i)
     (gather-text n (b + 1) (insert s b) bs rest h r)
 
 -- the count of a front
@@ -88,7 +85,7 @@ way-read n s rest h o l =
     rising = rw (members-below n s h l) (listed-rises (member s) n)
 
     the-set : gatherOf n 0 0 (sizeOf s) (numbersText (members s) ++ (10 ∷ rest)) ≡ G.Set s
-    the-set = rw (size-members s) (gather-text n 0 0 (members s) (10 ∷ rest) h rising ∙ ap G.Set (insert-members s (small-set n s h l)))
+    the-set = rw (size-members s) (gather-text n 0 0 (members s) (10 ∷ rest) h rising ∙ ap G.Set (insert-members s (fits-more s n 64 l h)))
 
 -- ---- what is read is what is written
 
@@ -115,10 +112,6 @@ one-more n l s k x z fields p q t a =
       text = rw (c, take-add 4 (4 * k) fields, t, a .text) (ap (λ (y : ℕ). columns 4 y ++ numbersText (a .bs)) i);
     }
 
-read-field : (fields : List ℕ) (z : ℕ) → fieldAt 4 0 fields ≡ Number z → take 4 fields ≡ columns 4 z
-unfolding fieldAt
-read-field fields z e = read-written 4 (take 4 fields) z e .text
-
 broken-no-set : {A : Type 0} (k x : ℕ) (fields : List ℕ) → brokenOf k fields ≡ G.Set x → A
 unfolding brokenOf
 broken-no-set {A} k x fields = go (all (numberThere fields) k)
@@ -131,7 +124,7 @@ numbers-accepted : (n k l s x : ℕ) (fields : List ℕ) → gatherOf n l s k fi
 unfolding gatherOf numbersText insertAll
 numbers-accepted n zero l s x fields e = record { bs = []; long = refl; rises = none; value = cc; text = refl }
 numbers-accepted n (suc k) l s x fields e =
-    go (λ z. numbers-accepted n k z (insert s (z - 1)) x (drop 4 fields)) (fieldAt 4 0 fields) (read-field fields) e
+    go (λ z. numbers-accepted n k z (insert s (z - 1)) x (drop 4 fields)) (fieldAt 4 0 fields) (field-text 4 0 fields) e
   where
     go : ((z : ℕ) → gatherOf n z (insert s (z - 1)) k (drop 4 fields) ≡ G.Set x → Numbers n z (insert s (z - 1)) k x (drop 4 fields))
         → (f : Field) → ((z : ℕ) → f ≡ Number z → take 4 fields ≡ columns 4 z)
@@ -151,10 +144,6 @@ pub record WayIs (n k s : ℕ) (rest : List ℕ) : Type 0 where
   pub small : s < 2 ^ n
   pub listed-count : numberAt 4 1 rest ≡ k
   pub text : rest ≡ wayText s ++ drop (6 + 4 * k) rest
-
--- the front of a line whose count was read
-front-five : (rest : List ℕ) → length (take 5 rest) ≤ 5
-front-five rest = omega (arith, length-take 5 rest)
 
 count-front : (front : List ℕ) (k : ℕ) → length front ≤ 5 → countOf front ≡ Number k → front ≡ wayFront k
 unfolding countOf wayFront fieldAt
@@ -204,7 +193,7 @@ way-parts n k s rest h o l f e g =
 
 pub way-accepted : (n k s : ℕ) (rest : List ℕ) → n ≤ 64 → wayOf n rest ≡ Members k s → WayIs n k s rest
 unfolding wayOf membersOf
-way-accepted n k s rest h = go (countOf (take 5 rest)) (λ c. count-front (take 5 rest) c (front-five rest))
+way-accepted n k s rest h = go (countOf (take 5 rest)) (λ c. count-front (take 5 rest) c (omega (arith, length-take 5 rest)))
   where
     last : (c : ℕ) (r : Gathered) → gatherOf n 0 0 c (drop 5 rest) ≡ r → take 5 rest ≡ wayFront c → fedAt (5 + 4 * c) rest ≡ true → 1 ≤ c → c ≤ n
         → asWay c r ≡ Members k s → WayIs n k s rest

@@ -9,16 +9,14 @@ use Prim.Native.Nat.{ℕ, zero, suc, _+_, _*_, _^_, _≤_, _<_}
 use native.Mathlib.Nat.{eq-or-lt-of-le, le-refl, add-zero}
 use native.Mathlib.Numerals.{add-one}
 use native.Mathlib.Omega.{arith}
-use lib.ListN.{length, getD, take, drop, set, length-append, length-set}
+use lib.ListN.{length, getD, drop, set, length-append, length-set}
 use lib.Seq.{drop-at, drop-drop, getD-set-same, getD-set-other}
 use Rattle.bounded.specs.Bounded.{sum}
 use Rattle.bounded.proofs.Bools.{clash}
 use Rattle.sets.specs.Sets.{sizeOf}
 use Rattle.plan.specs.Limits.{mostWays}
 use Rattle.plan.specs.declared.Judged.the-variants.{Fine, Form, Count, Sequence}
-use Rattle.plan.specs.declared.Plan.{Plan}
-use Rattle.plan.proofs.Valid.{Valid}
-use Rattle.plan.proofs.Filled.{filled}
+use Rattle.bounded.proofs.Filled.{filled}
 use Rattle.ways.specs.WayText.{wayText, waysText, sizeAt, waysLength}
 use Rattle.ways.specs.Way.{wayOf}
 use Rattle.ways.specs.Ways.{afterWay, waysOf, noWays, countsListed}
@@ -51,9 +49,6 @@ ways-length a ws =
 pub record Writable (n s : ℕ) : Type 0 where
   pub some : 1 ≤ sizeOf s
   pub small : s < 2 ^ n
-
-pub valid-writable : (p : Plan) → Valid p → (k : ℕ) → k < p .a → Writable (p .n) (getD (p .way) k 0)
-valid-writable p v k h = record { some = v .taken k h; small = v .sets k h }
 
 pub ways-read : (n first a i at : ℕ) (ws rest acc : List ℕ) → n ≤ 64 → ((k : ℕ) → i ≤ k → k < i + a → Writable n (getD ws k 0))
     → waysOf n first a i at (waysText a i ws ++ rest) acc ≡ record { judged = Fine; next = at + length (waysText a i ws); way = filled a i ws acc }

@@ -4,7 +4,6 @@ use mathlib.Core.List.{List}
 use Prim.Native.Nat.{ℕ, zero, suc, _+_, _*_}
 use lib.ListN.{drop, set, replicate}
 use Rattle.plan.specs.Limits.{mostWays}
-use Rattle.plan.specs.declared.Judged.{Judged}
 use Rattle.plan.specs.declared.Judged.the-variants.{Fine, Form, Count, Sequence}
 use Rattle.decimal.specs.Decimal.{numberAt}
 use Rattle.ways.specs.Way.{wayOf}

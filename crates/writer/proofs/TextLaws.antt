@@ -5,54 +5,24 @@ use mathlib.Core.Path.{_≡_, sym, _∙_}
 use mathlib.Core.List.{List, _++_}
 use native.Mathlib.Omega.{arith}
 use native.Mathlib.Nat.{zero-add}
-use lib.ListN.{length, getD, length-append}
+use lib.ListN.{length}
 use lib.Seq.{sets, sets-eq}
 use borrow.Author.Tests.{le-leb, lt-leb}
-use Rattle.bounded.proofs.Sums.{count-le}
-use Rattle.sets.specs.Sets.{member, sizeOf}
 use Rattle.decimal.proofs.Stores.{sets-append}
 use Rattle.plan.specs.Record.{recordOf}
 use Rattle.plan.specs.declared.Plan.{Plan}
 use Rattle.plan.specs.declared.Judgement.{Judgement}
 use Rattle.plan.specs.declared.Judgement.the-variants as R
-use Rattle.plan.proofs.LimitLaws.{Limited}
-use Rattle.plan.proofs.Valid.{valid}
 use Rattle.lines.specs.Head.{headText}
 use Rattle.lines.specs.Kinds.{kindsText}
 use Rattle.lines.specs.Links.{linksText}
 use Rattle.lines.proofs.Lengths.{head-length, kinds-length, links-length}
-use Rattle.ways.specs.WayText.{waysText, waysLength}
-use Rattle.ways.proofs.TextLaws.{length-most}
-use Rattle.ways.proofs.WaysRoundTrip.{ways-length}
+use Rattle.ways.specs.WayText.{waysText}
 use Rattle.sheet.specs.Text.{sheetText, sheetLength}
+use Rattle.sheet.proofs.ReadSheet.{sheet-length}
 use Rattle.writer.specs.Written.{fineAnswer, writtenOf, leftBy, leaves}
 use Rattle.writer.specs.declared.Written.{Written}
 use Rattle.writer.specs.declared.Written.the-variants.{Length, Count, Sequence, Short}
-
--- ---- lengths
-
-pub sheet-length : (p : Plan) → length (sheetText p) ≡ sheetLength p
-unfolding sheetText sheetLength
-sheet-length p =
-    let h : List ℕ = headText (p .n) (p .m) (p .a) in
-    let k : List ℕ = kindsText (p .n) 0 (p .kind) in
-    let l : List ℕ = linksText (p .m) 0 (p .from) (p .to) in
-    let w : List ℕ = waysText (p .a) 0 (p .way) in
-    omega (
-      arith,
-      length-append h (k ++ (l ++ w)),
-      length-append k (l ++ w),
-      length-append l w,
-      head-length (p .n) (p .m) (p .a),
-      kinds-length (p .n) 0 (p .kind),
-      links-length (p .m) 0 (p .from) (p .to),
-      ways-length (p .a) (p .way),
-    )
-
--- whatever the sets are, their lines take no more than this
-pub ways-most : (k a : ℕ) (ws : List ℕ) → k ≡ waysLength a ws → k ≤ 262 * a
-unfolding sizeOf
-ways-most k a ws e = omega (arith, length-most 64 a ws (λ i h. count-le (member (getD ws i 0)) 64))
 
 -- ---- the four kinds of lines, stored one after the other
 
@@ -93,9 +63,6 @@ module _ (p : Plan) (k : ℕ) (e : k ≡ sheetLength p) where
       i ∙ sets-eq (sheetText p) d 0 o ∙ rw (← (its-length (length d) r), the-length, zero-add)
 
 -- ---- the judgement of the record comes first
-
-pub fine-limits : (p : Plan) (r : Judgement) → r ≡ recordOf p → r ≡ R.Fine → Limited (p .n) (p .m) (p .a)
-fine-limits p r e g = valid p (sym e ∙ g) .counts
 
 module _ (p : Plan) (r : Judgement) (e : r ≡ recordOf p) (d : List ℕ) where
   module _ (g : r ≡ R.Fine) where

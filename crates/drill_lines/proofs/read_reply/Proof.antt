@@ -1,4 +1,5 @@
-use Rattle.drill_lines.proofs.ReplyLaws.{other-size, no-booking, no-feed, few, given}
+use Rattle.drill_lines.proofs.ReplyLaws.{other-size, no-booking, no-feed, given}
+use Rattle.decimal.proofs.Fields.{number-small}
 use borrow.Author.Needs.{needs}
 use Rattle.drill_lines.proofs.read_reply.Statement.{statement}
 use Rattle.drill_lines.proofs.read_reply.Tie as tie
@@ -15,7 +16,7 @@ returns-3 c = no-feed _ (c .if2 .taken)
 cast-t9 : tie.Need-cast-t9
 cast-t9 c =
     let b = c .before .before .before .before in
-    let s = few _ _ _ (b .before .before .field-at .ensures) (b .booking .given .1) in
+    let s = number-small 4 1 _ _ (b .before .before .field-at .ensures) _ (b .booking .given .1) in
     search needs
 
 returns-4 : tie.Need-returns-4

@@ -1,7 +1,8 @@
 use Prim.Native.Nat.{_≤_}
 use native.Mathlib.Omega.{arith}
-use Rattle.lines.proofs.LinkLaws.{no-frame, no-first, no-second, out, pair, ends-by}
+use Rattle.lines.proofs.LinkLaws.{no-frame, no-first, no-second, out, pair}
 use borrow.Author.Needs.{needs}
+use Rattle.plan.proofs.LimitLaws.{sequenced-by}
 use Rattle.lines.proofs.read_link.Statement.{statement}
 use Rattle.lines.proofs.read_link.Tie as tie
 
@@ -19,7 +20,7 @@ returns-4 c = search out
 
 -- the bookings of a link in sequence fit in a byte
 ends : (c : tie.Else2) → (c .before .before .before .before .before .before .before .u .given .0 .0 ≤ 64) × (c .before .before .before .v .given .0 .0 ≤ 64)
-ends c = let r = ends-by _ _ _ _ _ _ (c .before .in-sequence .ensures) (c .if2 .left) in (omega arith, omega arith)
+ends c = let r = sequenced-by _ _ _ _ _ _ (c .before .in-sequence .ensures) (c .if2 .left) in (omega (arith, r .start), omega (arith, r .end))
 
 cast-t11 : tie.Need-cast-t11
 cast-t11 c = omega (arith, ends c .0)

@@ -1,6 +1,6 @@
-use Rattle.plan.proofs.Rows.{fails-first, fails-second, as-third}
 use Rattle.plan.specs.Limits.{inSequence}
 use borrow.Author.Needs.{needs}
+use Rattle.bounded.proofs.Bools.{fails-first, fails-second, as-third}
 use Rattle.plan.proofs.in_sequence.Statement.{statement}
 use Rattle.plan.proofs.in_sequence.Tie as tie
 

@@ -2,8 +2,7 @@ use native.Mathlib.Numerals.{add-one}
 use lib.ListN.{getD}
 use mathlib.Core.List.{_∷_}
 use mathlib.Core.Path.{_≡_, refl, _∙_}
-use Rattle.plan.proofs.Rows.{all-out, all-on}
-use Rattle.bounded.proofs.Loops.{All-far, all-far-none, all-over}
+use Rattle.bounded.proofs.Loops.{All-far, all-far-none, all-over, all-out, all-on}
 use borrow.Author.Needs.{needs}
 use Prim.Native.Nat.{_-_, _≤_}
 use Rattle.plan.specs.Record.{linkAt}

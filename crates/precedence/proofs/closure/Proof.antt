@@ -4,7 +4,7 @@ use mathlib.Core.Path.{_≡_, refl, ap, _∙_}
 use mathlib.Core.Logic.{⊎-elim}
 use mir.Syntax.{w64}
 use lib.ListN.{length}
-use Rattle.sets.proofs.Arrays.{array-length}
+use Rattle.bounded.proofs.Arrays.{array-length}
 use Prim.Native.Nat.{_≤_, _-_}
 use native.Mathlib.Omega.{arith}
 use Rattle.precedence.specs.Precedence.{closureTo, closureOf}

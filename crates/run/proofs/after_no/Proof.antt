@@ -2,7 +2,7 @@
 -- Assumes nothing.
 use mathlib.Core.Path.{sym, _∙_}
 use borrow.Author.Needs.{needs}
-use Rattle.run.proofs.Codes.{cond-on, cond-off}
+use Rattle.bounded.proofs.Bools.{cond-on, cond-off}
 use Rattle.verdict.specs.Network.{exposed}
 use Rattle.run.specs.Replies.{afterNo}
 use Rattle.run.proofs.after_no.Statement.{statement}

@@ -1,17 +1,25 @@
 -- `run::load` meets its contract.
 -- Assumes nothing.
-use mathlib.Core.Path.{_≡_, refl}
+use mathlib.Core.Path.{_≡_, refl, ap}
+use mathlib.Core.List.{List}
 use Prim.Native.Nat.{ℕ, _≤_, _<_, _-_}
 use native.Mathlib.Omega.{arith}
 use borrow.Author.Count.{below-none}
 use lib.ListN.{length, getD, length-set}
-use Rattle.bounded.proofs.Lists.{table-put}
-use Rattle.run.proofs.Bytes.{byteOf, loaded-is}
+use Rattle.bounded.proofs.Lists.{table-put, tailAt, tail-is}
 use Rattle.run.proofs.load.Statement.{statement}
+use Rattle.run.specs.declared.Run.{Run}
+use Rattle.run.specs.Bytes.{runOf}
 use Rattle.run.proofs.load.Tie as tie
 
+-- the way, then the codes
+loaded-is : (bs code : List ℕ) → length bs ≡ 65 → length code ≡ 64 → ((k : ℕ) → k < 64 → getD code k 0 ≡ tailAt bs k)
+    → _≡_ {A = Run} (record { way = getD bs 0 0; code = code }) (runOf bs)
+unfolding runOf
+loaded-is bs code lb lc h = ap {B = Run} (λ (x : List ℕ). record { way = getD bs 0 0; code = x }) (tail-is 64 bs code lb lc h)
+
 abbrev Inv-loop : tie.InvT-loop
-Inv-loop s way code₀ i₀ code i = (i ≤ 64) × (length code ≡ 64) × ((k : ℕ) → k < i → getD code k 0 ≡ byteOf s k)
+Inv-loop s way code₀ i₀ code i = (i ≤ 64) × (length code ≡ 64) × ((k : ℕ) → k < i → getD code k 0 ≡ tailAt s k)
 
 abbrev μ-loop : tie.MeasureT-loop
 μ-loop s way code₀ i₀ code i = 64 - i
@@ -20,7 +28,7 @@ loop-holds : tie.Need-loop-holds Inv-loop μ-loop
 loop-holds c = (omega arith, refl, below-none _)
 
 loop-again : tie.Need-loop-again Inv-loop μ-loop
-unfolding byteOf
+unfolding tailAt
 loop-again c = let i = c .before .before .loop in (
   omega arith,
   simp length-set (i .inv .1),

@@ -7,9 +7,9 @@ use borrow.Author.Count.{below-none}
 use lib.ListN.{length, getD, length-set}
 use lib.Seq.{getD-set-same, getD-set-other}
 use Rattle.run.specs.Bytes.{bytesOf}
-use Rattle.run.proofs.Bytes.{shifted-put, cons-is}
-use Rattle.sets.proofs.Arrays.{field-length}
+use Rattle.bounded.proofs.Arrays.{field-length}
 use mir.Syntax.{w8}
+use Rattle.bounded.proofs.Lists.{tail-put, cons-is}
 use Rattle.run.proofs.store.Statement.{statement}
 use Rattle.run.proofs.store.Tie as tie
 
@@ -28,7 +28,7 @@ loop-again c = let i = c .before .loop in
       omega arith,
       simp length-set (i .inv .1),
       getD-set-other (i .s) _ 0 _ 0 (λ q. omega arith) ∙ i .inv .2,
-      shifted-put (i .s) (a .args .r .code) (i .i) (omega arith) (i .inv .3),
+      tail-put (i .s) (a .args .r .code) (i .i) (omega arith) (i .inv .3),
     )
 
 returns : tie.Need-returns Inv-loop μ-loop

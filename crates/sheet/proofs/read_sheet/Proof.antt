@@ -1,5 +1,6 @@
-use Rattle.sheet.proofs.SheetLaws.{head-form, head-count, head-right, head-limits}
+use Rattle.sheet.proofs.SheetLaws.{head-form, head-count, head-right}
 use borrow.Author.Needs.{needs}
+use Rattle.lines.proofs.RoundTrip.{head-limits}
 use Rattle.sheet.proofs.read_sheet.Statement.{statement}
 use Rattle.sheet.proofs.read_sheet.Tie as tie
 

@@ -4,7 +4,8 @@ use mathlib.Core.Path.{_∙_}
 use Prim.Native.Nat.{_≤_}
 use native.Mathlib.Omega.{arith}
 use borrow.Author.Needs.{needs}
-use Rattle.soundness.proofs.Tests.{Sets-of, founded-is, exposed-is, requested-is, returning-is, quiet-is, firm-is, pending-is, fails, went, sound-last, way-few}
+use Rattle.bounded.proofs.Bools.{went}
+use Rattle.soundness.proofs.Tests.{Sets-of, founded-is, exposed-is, requested-is, returning-is, quiet-is, firm-is, pending-is, fails, sound-last, way-few}
 use Rattle.soundness.proofs.is_sound.Statement.{statement}
 use Rattle.soundness.proofs.is_sound.Tie as tie
 

@@ -1,4 +1,4 @@
-use Rattle.sets.proofs.Arrays.{array-fits}
+use Rattle.bounded.proofs.Arrays.{array-fits}
 use mir.Syntax.{w64}
 use lib.ListN.{getD}
 use lib.Bits.{bitOr}

@@ -1,13 +1,14 @@
 use native.Mathlib.Omega.{arith}
-use Rattle.ways.proofs.ReadLaws.{above-last, at-most, gather-fault, gather-out, gather-on, gather-end}
+use Rattle.ways.proofs.ReadLaws.{gather-fault, gather-out, gather-on, gather-end}
 use borrow.Author.Needs.{needs}
 use native.Mathlib.Nat.{sub-zero, add-zero, mul-zero}
 use lib.ListN.{getD, drop}
 use Prim.Native.Nat.{_+_, _*_, _-_, _^_, _≤_, _<_}
 use lib.Bits.{bitOr}
 use Rattle.sets.specs.Sets.{insert}
-use Rattle.sets.proofs.Operations.{put-alone, insert-lt}
+use Rattle.sets.proofs.Operations.{put-alone, insert-fits}
 use mathlib.Core.Path.{_≡_}
+use Rattle.plan.proofs.LimitLaws.{within-lo-by, within-hi-by}
 use Rattle.ways.specs.Way.{gatherOf}
 use Rattle.ways.proofs.gather.Statement.{statement}
 use Rattle.ways.proofs.gather.Tie as tie
@@ -29,10 +30,10 @@ returns-2 c = search gather-out
 
 -- a number in sequence is above the last, and at most n
 above : (c : tie.Else1 Inv-loop μ-loop) → c .before .before .before .before .before .before .before .loop .last + 1 ≤ c .before .before .before .x .given .0 .0
-above c = above-last _ _ _ _ (c .before .is-within .ensures) (c .if1 .left)
+above c = within-lo-by _ _ _ _ (c .before .is-within .ensures) (c .if1 .left)
 
 below : (c : tie.Else1 Inv-loop μ-loop) → c .before .before .before .x .given .0 .0 ≤ c .before .before .before .before .before .before .before .before .before .before .args .n
-below c = at-most _ _ _ _ (c .before .is-within .ensures) (c .if1 .left)
+below c = within-hi-by _ _ _ _ (c .before .is-within .ensures) (c .if1 .left)
 
 sub-set : tie.Need-sub-set Inv-loop μ-loop
 sub-set c = omega (arith, above c)
@@ -51,7 +52,7 @@ put : (c : tie.Else1 Inv-loop μ-loop) →
 put c = let l = c .before .before .before .before .before .before .before in put-alone _ (l .before .bits .ensures) _ _ (omega (arith, above c, below c)) (l .loop .inv .2)
 
 loop-again : tie.Need-loop-again Inv-loop μ-loop
-loop-again c = (search needs, search at-most, rw (put c) (insert-lt _ _), search (gather-on, put c))
+loop-again c = (search needs, search within-hi-by, rw (put c) (insert-fits _ _), search (gather-on, put c))
 
 returns-3 : tie.Need-returns-3 Inv-loop μ-loop
 returns-3 c = search gather-end

@@ -1,11 +1,12 @@
 use denote.Ref.{now}
 use Prim.Native.Nat.{_≤_}
 use native.Mathlib.Omega.{arith}
-use Rattle.ways.proofs.ReadLaws.{at-most, no-count, count-out, no-end, by-set}
+use Rattle.ways.proofs.ReadLaws.{no-count, count-out, no-end, by-set}
 use mathlib.Core.Path.{_≡_, sym, ap, _∙_}
 use lib.ListN.{drop}
 use Rattle.ways.specs.Way.{asWay, wayOf}
 use borrow.Author.Needs.{needs}
+use Rattle.plan.proofs.LimitLaws.{within-hi-by}
 use Rattle.ways.proofs.read_way.Statement.{statement}
 use Rattle.ways.proofs.read_way.Tie as tie
 
@@ -17,7 +18,7 @@ returns-2 c = search count-out
 
 -- the count is at most n
 few : (c : tie.Else1) → c .before .before .before .k .given .0 .0 ≤ c .before .before .before .before .before .before .before .before .args .n
-few c = at-most _ _ _ _ (c .before .is-within .ensures) (c .if1 .left)
+few c = within-hi-by _ _ _ _ (c .before .is-within .ensures) (c .if1 .left)
 
 mul-is-fed : tie.Need-mul-is-fed
 mul-is-fed c = omega (arith, few c)

@@ -1,8 +1,9 @@
 use native.Mathlib.Omega.{arith}
-use Rattle.ways.proofs.TextLaws.{size-small, size-next, none-yet, length-all}
+use Rattle.ways.proofs.TextLaws.{size-next, none-yet, length-all}
 use borrow.Author.Needs.{needs}
 use Prim.Native.Nat.{_*_, _-_, _≤_}
 use mathlib.Core.Path.{_≡_}
+use Rattle.sets.proofs.Gather.{size-small}
 use Rattle.ways.specs.WayText.{waysLength}
 use Rattle.ways.proofs.ways_size.Statement.{statement}
 use Rattle.ways.proofs.ways_size.Tie as tie

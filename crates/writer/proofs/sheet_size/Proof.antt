@@ -1,7 +1,7 @@
 use native.Mathlib.Omega.{arith}
 use borrow.Author.Needs.{needs}
+use Rattle.ways.proofs.TextLaws.{ways-most}
 use Rattle.sheet.specs.Text.{sheetLength}
-use Rattle.writer.proofs.TextLaws.{ways-most}
 use Rattle.writer.proofs.sheet_size.Statement.{statement}
 use Rattle.writer.proofs.sheet_size.Tie as tie
 

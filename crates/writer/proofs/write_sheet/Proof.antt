@@ -1,11 +1,12 @@
 use borrow.Author.Needs.{needs}
-use Rattle.writer.proofs.TextLaws.{fine-answer, fine-left, fine-limits, count-answer, count-left, sequence-answer, sequence-left}
+use Rattle.plan.proofs.Valid.{fine-limited}
+use Rattle.writer.proofs.TextLaws.{fine-answer, fine-left, count-answer, count-left, sequence-answer, sequence-left}
 use Rattle.writer.proofs.write_sheet.Statement.{statement}
 use Rattle.writer.proofs.write_sheet.Tie as tie
 
 write-fine-requires : tie.Need-write-fine-requires
 write-fine-requires c κs =
-    let l = fine-limits _ _ (c .before .before .before .judge .ensures) (c .before .enum-told .given .1) in
+    let l = fine-limited _ _ (c .before .before .before .judge .ensures) (c .before .enum-told .given .1) in
     (l .bookings, l .links, l .ways)
 
 returns : tie.Need-returns

@@ -4,7 +4,7 @@ use mathlib.Core.Path.{ap, ap₂, _∙_}
 use mathlib.Core.Bool.{not}
 use borrow.Author.Needs.{needs}
 use Rattle.sets.specs.Sets.{disjointFrom}
-use Rattle.run.specs.State.{coded, lost, lostIn}
+use Rattle.run.specs.State.{coded, lostIn}
 use Rattle.run.proofs.Run.lost_in.Statement.{statement}
 use Rattle.run.proofs.Run.lost_in.Tie as tie
 

@@ -9,25 +9,26 @@ use mir.Val.{Fits}
 use mir.Syntax.{w64}
 use Rattle.bounded.specs.Bounded.{any}
 use Rattle.sets.specs.Sets.{member}
-use Rattle.run.proofs.Codes.{reach, reach-none, reach-more, needed-is}
+use Rattle.sets.proofs.Whole.{picked, picked-none, picked-more}
+use Rattle.run.proofs.Codes.{needed-is}
 use Rattle.run.proofs.Run.needed.Statement.{statement}
 use Rattle.run.proofs.Run.needed.Tie as tie
 
 abbrev Inv-loop : tie.InvT-loop
-Inv-loop busy before s₀ v₀ v-end s v = (v ≤ v-end) × (s < 2 ^ 64) × ((b : ℕ) → member s b ≡ any (reach busy before b) v)
+Inv-loop busy before s₀ v₀ v-end s v = (v ≤ v-end) × (s < 2 ^ 64) × ((b : ℕ) → member s b ≡ any (picked busy before b) v)
 
 abbrev μ-loop : tie.MeasureT-loop
 μ-loop busy before s₀ v₀ v-end s v = v-end - v
 
 loop-holds : tie.Need-loop-holds Inv-loop μ-loop
-loop-holds c = (omega arith, omega arith, reach-none _ _)
+loop-holds c = (omega arith, omega arith, picked-none _ _)
 
 loop-again : tie.Need-loop-again Inv-loop μ-loop
 loop-again c = let i = c .before .before .loop in
     let f : Fits w64 (c .where-in .result) = search needs in (
       omega arith,
       or-lt 64 (i .s) _ (i .inv .1) (f .fits),
-      reach-more _ _ (i .v) (i .s) _ (i .inv .2) (c .where-in .ensures),
+      picked-more _ _ (i .v) (i .s) _ (i .inv .2) (c .where-in .ensures),
     )
 
 returns : tie.Need-returns Inv-loop μ-loop

@@ -14,11 +14,6 @@ unfoldable pub filled : ℕ → ℕ → List ℕ → List ℕ → List ℕ
 filled zero i xs acc = acc
 filled (suc n) i xs acc = filled n (i + 1) xs (set acc i (getD xs i 0))
 
-pub filled-length : (n i : ℕ) (xs acc : List ℕ) → length (filled n i xs acc) ≡ length acc
-unfolding filled
-filled-length zero i xs acc = refl
-filled-length (suc n) i xs acc = filled-length n (i + 1) xs (set acc i (getD xs i 0)) ∙ length-set acc i (getD xs i 0)
-
 filled-before : (n i : ℕ) (xs acc : List ℕ) (j : ℕ) → j < i → getD (filled n i xs acc) j 0 ≡ getD acc j 0
 unfolding filled
 filled-before zero i xs acc j h = refl
@@ -33,3 +28,8 @@ filled-at (suc n) i xs acc j h l u =
     (λ (e : i ≡ j). rw (← e) (filled-before n (i + 1) xs (set acc i (getD xs i 0)) i (omega arith) ∙ getD-set-same acc i _ 0 (omega arith)))
     (λ (m : i < j). filled-at n (i + 1) xs (set acc i (getD xs i 0)) j (rw length-set (omega arith)) (omega arith) (omega arith))
     (eq-or-lt-of-le l)
+
+pub filled-past : (n i : ℕ) (xs acc : List ℕ) (j : ℕ) → i + n ≤ j → getD (filled n i xs acc) j 0 ≡ getD acc j 0
+unfolding filled
+filled-past zero i xs acc j h = refl
+filled-past (suc n) i xs acc j h = filled-past n (i + 1) xs (set acc i (getD xs i 0)) j (omega arith) ∙ getD-set-other acc i j _ 0 (λ e. omega arith)

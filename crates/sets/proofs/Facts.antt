@@ -1,20 +1,18 @@
--- Sets made by a test, subsets, sets apart and sets that are not empty, as facts about members. e takes a fact out, i brings one in.
+-- Sets made by a test, subsets, sets apart and sets that are not empty, as facts about members: e takes a fact out, i brings one in, n is for none.
 -- Assumes nothing.
-use mathlib.Core.Path.{_≡_, refl, sym, ap, _∙_}
-use mathlib.Core.Logic.{inl, inr}
-use mathlib.Core.Bool.{Bool, true, false, not, _&&_}
-use Prim.Native.Nat.{ℕ, zero, suc, _<_}
+use mathlib.Core.Path.{_≡_, sym, _∙_, refl, ap}
+use mathlib.Core.Logic.{inl, inr, _≢_}
+use mathlib.Core.Bool.{Bool, true, not, _&&_, false}
+use Prim.Native.Nat.{ℕ, _<_, zero, suc}
 use native.Mathlib.Nat.{zero-mul, zero-add, le-refl}
 use native.Mathlib.Omega.{arith}
 use lib.Dec.{eqb}
-use borrow.Author.Tests.{eqb-true}
-use Rattle.bounded.specs.Bounded.{one}
-use Rattle.bounded.proofs.Bools.{which, clash, off, split?, and-l, and-r, and-i, not-t, not-f, not-i, imp-e, imp-i}
+use borrow.Author.Tests.{eqb-true, eq-eqb, ne-eqb, not-true, not-false}
+use Rattle.bounded.proofs.Bools.{clash, split?, imp-e, imp-i, off, and-l, and-r, not-i, which, _&_}
 use Rattle.bounded.proofs.Tests.{all-i, all-e, all-n}
-use Rattle.sets.specs.Sets.{member, gather, kept, subsetOf, apart, disjointFrom}
-use Rattle.sets.proofs.Members.{member-zero}
+use Rattle.sets.specs.Sets.{member, gather, kept, subsetOf, apart, disjointFrom, some}
 use Rattle.sets.proofs.Gather.{member-gather, member-gather-past}
-use Rattle.verdict.specs.Network.{some}
+use Rattle.sets.proofs.Members.{member-zero}
 
 -- ---- the set of what passes a test
 
@@ -37,27 +35,17 @@ pub subset-i : (a b : ℕ) → ((i : ℕ) → i < 64 → member a i ≡ true →
 unfolding subsetOf kept
 subset-i a b h = all-i (kept a b) 64 (λ i l. imp-i (member a i) (member b i) (h i l))
 
--- a set is no subset: a member is missing
-pub subset-n : (a b : ℕ) → subsetOf a b ≡ false → (i : ℕ) × (i < 64) × (member a i ≡ true) × (member b i ≡ false)
-unfolding subsetOf kept
-subset-n a b e =
-    let t = all-n (kept a b) 64 e in
-    let i = t .0 in
-    let out : member b i ≡ false = off (member b i) (λ m. clash (kept a b i) (imp-i (member a i) (member b i) (λ q. m)) (t .2)) in
-    let in′ : member a i ≡ true = not-f (member a i) (off (not (member a i)) (λ q. clash (kept a b i) (imp-i (member a i) (member b i) (λ m. clash (member a i) m (not-t (member a i) q))) (t .2))) in
-    (i, t .1, in′, out)
-
 -- not apart: a common member
 pub meet-i : (a b i : ℕ) → i < 64 → member a i ≡ true → member b i ≡ true → not (disjointFrom a b) ≡ true
 unfolding disjointFrom apart
 meet-i a b i h p q =
-    not-i _ (off (disjointFrom a b) (λ e. clash (member a i && member b i) (and-i _ _ p q) (not-t (member a i && member b i) (all-e (apart a b) 64 e i h))))
+    not-i _ (off (disjointFrom a b) (λ e. clash (member a i && member b i) (p & q) (not-true (member a i && member b i) (all-e (apart a b) 64 e i h))))
 
 pub meet-e : (a b : ℕ) → not (disjointFrom a b) ≡ true → (i : ℕ) × (i < 64) × (member a i ≡ true) × (member b i ≡ true)
 unfolding disjointFrom apart
 meet-e a b e =
-    let t = all-n (apart a b) 64 (not-t (disjointFrom a b) e) in
-    let m = not-f (member a (t .0) && member b (t .0)) (t .2) in
+    let t = all-n (apart a b) 64 (not-true (disjointFrom a b) e) in
+    let m = not-false (member a (t .0) && member b (t .0)) (t .2) in
     (t .0, t .1, and-l (member a (t .0)) _ m, and-r (member a (t .0)) _ m)
 
 -- ---- not empty
@@ -77,3 +65,12 @@ some-e f (suc n) e = elim (which (f n)) [
 -- an empty set has no member
 pub some-n : (f : ℕ → Bool) (n i : ℕ) → some (gather f n) ≡ false → i < n → f i ≡ false
 some-n f n i e h = off (f i) (λ p. clash (some (gather f n)) (some-i (gather f n) i (gather-i f n i h p)) e)
+
+-- a set that the code compares with 0
+pub some-on : (s t : ℕ) → s ≡ t → s ≢ 0 → some t ≡ true
+unfolding some
+some-on s t p d = rw (← p) (ap not (ne-eqb s 0 d))
+
+pub some-off : (s t : ℕ) → s ≡ t → s ≡ 0 → some t ≡ false
+unfolding some
+some-off s t p z = rw (← p) (ap not (eq-eqb s 0 z))

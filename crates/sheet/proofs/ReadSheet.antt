@@ -1,0 +1,119 @@
+-- The sheet of a record that is fine reads as that record (`sheet-read`), and how long it can be.
+-- Assumes nothing.
+use mathlib.Core.Path.{_≡_, refl, sym, _∙_}
+use mathlib.Core.List.{List, _++_, [], append-nil}
+use mathlib.Core.Bool.{true}
+use Prim.Native.Nat.{ℕ, _+_, _*_, _≤_}
+use native.Mathlib.Omega.{arith}
+use lib.ListN.{length, length-append, take, drop}
+use lib.Seq.{take-at, drop-at, drop-drop}
+use borrow.Author.Tests.{eq-eqb}
+use Rattle.bounded.proofs.Filled.{filled}
+use Rattle.plan.specs.declared.Plan.{Plan}
+use Rattle.plan.specs.Judging.{isFine}
+use Rattle.plan.specs.Record.{recordOf}
+use Rattle.plan.specs.declared.Judged.the-variants.{Fine}
+use Rattle.plan.proofs.LimitLaws.{Limited, limited-i}
+use Rattle.plan.proofs.Valid.{valid, fine-entries, kind-fits, link-fits}
+use Rattle.lines.specs.Head.{headText, headOf}
+use Rattle.lines.specs.Kinds.{kindsText, noKinds}
+use Rattle.lines.specs.Links.{linksText, noLinks}
+use Rattle.lines.proofs.Lengths.{head-length, kinds-length, links-length}
+use Rattle.lines.proofs.RoundTrip.{head-read}
+use Rattle.lines.proofs.AllLines.{kinds-read, links-read}
+use Rattle.plan.specs.declared.Judgement.the-variants as R
+use Rattle.lines.specs.declared.Head.the-variants as H
+use Rattle.ways.specs.WayText.{waysText, waysLength}
+use Rattle.ways.specs.Ways.{noWays}
+use Rattle.ways.proofs.WaysRoundTrip.{ways-length, all-read}
+use Rattle.ways.proofs.TextLaws.{ways-most}
+use Rattle.sheet.specs.Text.{sheetText, sheetLength}
+use Rattle.sheet.specs.Sheet.{linksPlace, waysPlace, kindsIn, linksIn, waysIn, planOf, endOf, bodyOf, sheetOf}
+use Rattle.sheet.proofs.Accepted.{sheet-fine, sheet-accepted}
+
+pub sheet-length : (p : Plan) → length (sheetText p) ≡ sheetLength p
+unfolding sheetText sheetLength
+sheet-length p =
+    let h : List ℕ = headText (p .n) (p .m) (p .a) in
+    let k : List ℕ = kindsText (p .n) 0 (p .kind) in
+    let l : List ℕ = linksText (p .m) 0 (p .from) (p .to) in
+    let w : List ℕ = waysText (p .a) 0 (p .way) in
+    omega (
+      arith,
+      length-append h (k ++ (l ++ w)),
+      length-append k (l ++ w),
+      length-append l w,
+      head-length (p .n) (p .m) (p .a),
+      kinds-length (p .n) 0 (p .kind),
+      links-length (p .m) 0 (p .from) (p .to),
+      ways-length (p .a) (p .way),
+    )
+
+-- the plan that is read
+unfoldable pub readPlan : Plan → Plan
+readPlan p = record {
+  n = p .n;
+  m = p .m;
+  a = p .a;
+  kind = filled (p .n) 0 (p .kind) noKinds;
+  from = filled (p .m) 0 (p .from) noLinks;
+  to = filled (p .m) 0 (p .to) noLinks;
+  way = filled (p .a) 0 (p .way) noWays;
+}
+
+module _ (p : Plan) (e : recordOf p ≡ R.Fine) where
+  fits : Limited (p .n) (p .m) (p .a)
+  fits = valid p e .counts
+
+  the-head : headOf (take 14 (sheetText p)) ≡ H.Counts (p .n) (p .m) (p .a)
+  unfolding sheetText
+  the-head =
+      rw (take-at (headText (p .n) (p .m) (p .a)) (kindsText (p .n) 0 (p .kind) ++ (linksText (p .m) 0 (p .from) (p .to) ++ waysText (p .a) 0 (p .way))) 14 (head-length (p .n) (p .m) (p .a)))
+      (head-read (p .n) (p .m) (p .a) (limited-i (p .n) (p .m) (p .a) fits))
+
+  from-kinds : drop 14 (sheetText p) ≡ kindsText (p .n) 0 (p .kind) ++ (linksText (p .m) 0 (p .from) (p .to) ++ waysText (p .a) 0 (p .way))
+  unfolding sheetText
+  from-kinds = drop-at (headText (p .n) (p .m) (p .a)) _ 14 (head-length (p .n) (p .m) (p .a))
+
+  from-links : drop (linksPlace (p .n)) (sheetText p) ≡ linksText (p .m) 0 (p .from) (p .to) ++ waysText (p .a) 0 (p .way)
+  from-links =
+      sym (drop-drop (8 * p .n) 14 (sheetText p)) ∙ rw from-kinds (drop-at (kindsText (p .n) 0 (p .kind)) _ (8 * p .n) (kinds-length (p .n) 0 (p .kind)))
+
+  from-ways : drop (waysPlace (p .n) (p .m)) (sheetText p) ≡ waysText (p .a) 0 (p .way) ++ []
+  from-ways =
+      sym (drop-drop (10 * p .m) (linksPlace (p .n)) (sheetText p))
+      ∙ rw from-links (drop-at (linksText (p .m) 0 (p .from) (p .to)) _ (10 * p .m) (links-length (p .m) 0 (p .from) (p .to)))
+      ∙ sym (append-nil (waysText (p .a) 0 (p .way)))
+
+  the-kinds : kindsIn (p .n) (sheetText p) ≡ record { judged = Fine; kind = readPlan p .kind }
+  unfolding kindsIn readPlan
+  the-kinds = rw from-kinds (kinds-read (p .n) 0 (p .kind) _ noKinds (omega (arith, fits .bookings)) (λ j l u. kind-fits p (fine-entries p e) j (omega arith)))
+
+  the-links : linksIn (p .n) (p .m) (sheetText p) ≡ record { judged = Fine; from = readPlan p .from; to = readPlan p .to }
+  unfolding linksIn readPlan
+  the-links =
+      rw from-links
+      (links-read (p .n) (p .m) 0 (p .from) (p .to) _ 0 0 noLinks noLinks (omega (arith, fits .bookings)) (λ j l u. link-fits p (fine-entries p e) j (omega arith)) refl refl)
+
+  the-ways : waysIn (p .n) (p .m) (p .a) (sheetText p) ≡ record { judged = Fine; next = sheetLength p; way = readPlan p .way }
+  unfolding waysIn readPlan sheetLength
+  the-ways =
+      rw from-ways
+      (all-read (p .n) (p .n + p .m + 2) (p .a) (waysPlace (p .n) (p .m)) (p .way) [] (fits .bookings)
+      (λ k h. record { some = valid p e .taken k h; small = valid p e .sets k h }))
+
+  -- the sheet of a record that is fine reads as that record
+  pub sheet-read : sheetOf (sheetText p) ≡ record { judged = Fine; plan = readPlan p }
+  unfolding sheetOf bodyOf endOf planOf readPlan
+  sheet-read = rw (the-head, the-kinds, the-links, the-ways, eq-eqb _ _ (sym (sheet-length p)))
+
+  -- the longest sheet has 64 bookings, 512 links and 16 ways of 64 bookings
+  pub length-bound : length (sheetText p) ≤ 9838
+  unfolding sheetLength
+  length-bound =
+      let w : waysLength (p .a) (p .way) ≤ 262 * p .a = ways-most _ (p .a) (p .way) refl in
+      omega (arith, sheet-length p, fits .bookings, fits .links, fits .ways)
+
+-- no accepted sheet is longer than the longest
+pub sheet-bound : (s : List ℕ) → isFine (sheetOf s .judged) ≡ true → length s ≤ 9838
+sheet-bound s e = rw (← (sheet-accepted s e)) (length-bound (sheetOf s .plan) (sheet-fine s e))
