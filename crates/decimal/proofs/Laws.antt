@@ -3,7 +3,7 @@
 -- Assumes nothing.
 use Prim.Native.Nat.{ℕ, zero, suc, _+_, _-_, _*_, _/_, _%_, _^_, _<_, _≤_}
 use mathlib.Core.Path.{_≡_, refl, sym, ap, _∙_, subst}
-use mathlib.Core.Logic.{inl, inr}
+use mathlib.Core.Logic.{_⊎_, inl, inr}
 use mathlib.Core.List.{List, [], _∷_, _++_}
 use mathlib.Core.Bool.{Bool, true, false, not, _&&_, cond}
 use native.Mathlib.Nat.{pow-suc, pow-le-pow-right}
@@ -11,10 +11,12 @@ use native.Mathlib.Numerals.{add-one}
 use native.Mathlib.Omega.{arith}
 use lib.ListN.{length, getD, take, set, length-append, List·getD-append}
 use lib.Seq.{sets, take-suc, take-take, take-all, take-at, getD-take, getD-at}
-use lib.Dec.{eqb, leb}
-use borrow.Author.Tests.{eqb-true, eq-eqb, ne-eqb, le-leb, lt-leb, not-true, not-false}
-use Rattle.bounded.proofs.Bools.{clash, and-no-r, and-true, last?, split?}
-use Rattle.decimal.specs.Decimal.{column, columnsTo, columns, valueOf, sameBytes, fieldOf}
+use lib.Dec.{eqb, leb, ltb}
+use borrow.Author.Tests.{eqb-true, eqb-false, eq-eqb, ne-eqb, leb-true, le-leb, ltb-true, lt-ltb, not-true, not-false}
+use Rattle.bounded.proofs.Bools.{clash, and-l, and-r, and-no-r, and-true, last?, split?, _&_}
+use Rattle.bounded.proofs.First.{Least, first-least}
+use Rattle.bounded.specs.Bounded.{first}
+use Rattle.decimal.specs.Decimal.{begun, column, columnsTo, columns, valueOf, sameBytes, fieldOf}
 use Rattle.decimal.specs.declared.Field.the-variants.{Number, Fault}
 use Rattle.decimal.proofs.Bytes.{same-refl, same-eq, same-ne}
 use Rattle.decimal.proofs.Stores.{sets-last}
@@ -38,20 +40,34 @@ before-column last b v e =
     let m : b % 16 ≡ (v * 10 + b % 16) % 10 = ap (λ (x : ℕ). x % 16) e ∙ column-mod last (v * 10 + b % 16) in
     omega arith
 
--- once the number has begun, the byte of a column is its digit's
-module _ (last : Bool) (b x : ℕ) (begun : x ≡ 0 → ⊥) where
-  column-begun : column last x ≡ 48 + x % 10
-  unfolding column
-  column-begun = rw (ne-eqb x 0 begun)
+-- what stands in a column whose number is x: a space while it is nothing and more follow, and else its last digit
+column-cases : (last : Bool) (x : ℕ) → ((x ≡ 0) × (last ≡ false) × (column last x ≡ 32)) ⊎ (column last x ≡ 48 + x % 10)
+unfolding column
+column-cases last x = go last (eqb x 0) (eqb-true x 0)
+  where
+    go : (l b : Bool) → (b ≡ true → x ≡ 0)
+        → ((x ≡ 0) × (l ≡ false) × (cond (b && not l) 32 (48 + x % 10) ≡ 32)) ⊎ (cond (b && not l) 32 (48 + x % 10) ≡ 48 + x % 10)
+    go true true h = inr refl
+    go true false h = inr refl
+    go false true h = inl (h refl, refl, refl)
+    go false false h = inr refl
 
-  pub below-digits : b < 48 → false ≡ eqb b (column last x)
-  below-digits h = sym (rw column-begun (ne-eqb b (48 + x % 10) (λ e. omega arith)))
+-- a byte that is no digit stands rightly only as a space in front
+pub no-digit : (last : Bool) (b x : ℕ) → leb 48 b && leb b 57 ≡ false → (x ≡ 0 → last ≡ false → b ≡ 32 → ⊥) → b ≡ column last x → ⊥
+no-digit last b x n h e = elim (column-cases last x) [
+  | inl c ↦ h (c .0) (c .1) (e ∙ c .2)
+  | inr c ↦ clash (leb 48 b && leb b 57) (le-leb 48 b (omega arith) & le-leb b 57 (omega arith)) n
+]
 
-  pub digit-read : 48 ≤ b → x % 10 ≡ b % 16 % 10 → leb b 57 ≡ eqb b (column last x)
-  digit-read h d = rw column-begun (elim (split? 57 b) [
-    | inl m ↦ lt-leb b 57 m ∙ sym (ne-eqb b (48 + x % 10) (λ e. omega arith))
-    | inr m ↦ le-leb b 57 m ∙ sym (eq-eqb b (48 + x % 10) (omega arith))
-  ])
+-- a digit stands rightly unless it is a zero in front
+pub digit-read : (last : Bool) (b x : ℕ) → leb 48 b && leb b 57 ≡ true → x % 10 ≡ b % 16 % 10 → (x ≡ 0 → last ≡ false → b ≡ 48 → ⊥) → b ≡ column last x
+digit-read last b x t d h =
+    let lo : 48 ≤ b = leb-true 48 b (and-l (leb 48 b) (leb b 57) t) in
+    let hi : b ≤ 57 = leb-true b 57 (and-r (leb 48 b) (leb b 57) t) in
+    elim (column-cases last x) [
+      | inl c ↦ (let z = c .0 in absurd (h z (c .1) (omega arith)))
+      | inr c ↦ (let e : b ≡ 48 + x % 10 = omega arith in e ∙ sym c)
+    ]
 
 -- ---- the columns of a number
 
@@ -157,25 +173,24 @@ pub fault-length : (w : ℕ) (s : List ℕ) → (length s ≡ w → ⊥) → Fau
 unfolding fieldOf
 fault-length w s h = sym (rw (same-ne s (columns w (valueOf w s)) (λ e. h (ap length e ∙ columns-length w (valueOf w s)))))
 
--- what the loop has in hand of column i: x is the value before it, d its digit, r whether the byte stands there rightly
-module _ (w : ℕ) (s : List ℕ) (i x d : ℕ) (r : Bool) (n : length s ≡ w) (h : i < w) (v : x ≡ valueOf i s) (g : d ≡ getD s i 0 % 16)
-    (k : r ≡ eqb (getD s i 0) (column (eqb (i + 1) w) (x * 10 + d))) where
-  pub value-turn : x * 10 + d ≡ valueOf (i + 1) s
+-- what the loop has in hand of column i: x is the value before it, d its digit
+module _ (w : ℕ) (s : List ℕ) (i x d : ℕ) (n : length s ≡ w) (h : i < w) (v : x ≡ valueOf i s) (g : d ≡ getD s i 0 % 16) where
+  value-turn : x * 10 + d ≡ valueOf (i + 1) s
   unfolding valueOf
   value-turn = rw (add-one, v, g)
 
   -- a byte that is not its column makes the field a fault
-  pub fault-at : not r ≡ true → Fault ≡ fieldOf w s
+  fault-at : (getD s i 0 ≡ column (eqb (i + 1) w) (x * 10 + d) → ⊥) → Fault ≡ fieldOf w s
   unfolding fieldOf columns
   fault-at other =
       sym (rw (same-ne s (columns w (valueOf w s)) (λ e.
-      clash r (k ∙ eq-eqb _ _ (each-column true w s (omega arith) (take-all w s (omega arith) ∙ e) i h ∙ rw (value-turn, add-one))) (not-true r other))))
+      other (each-column true w s (omega arith) (take-all w s (omega arith) ∙ e) i h ∙ rw (value-turn, add-one)))))
 
   -- one byte more is its column
-  pub column-read : take i s ≡ columnsTo (eqb i w) i x → not r ≡ false → take (i + 1) s ≡ columnsTo (eqb (i + 1) w) (i + 1) (x * 10 + d)
+  column-read : take i s ≡ columnsTo (eqb i w) i x → getD s i 0 ≡ column (eqb (i + 1) w) (x * 10 + d)
+      → take (i + 1) s ≡ columnsTo (eqb (i + 1) w) (i + 1) (x * 10 + d)
   unfolding columnsTo
-  column-read t p =
-      let b : getD s i 0 ≡ column (eqb (i + 1) w) (x * 10 + d) = eqb-true _ _ (sym k ∙ not-false r p) in
+  column-read t b =
       let o : eqb i w ≡ false = ne-eqb i w (λ z. omega arith) in
       let e : getD s i 0 ≡ column (eqb (i + 1) w) (x * 10 + getD s i 0 % 16) = b ∙ rw g in
       let q : (x * 10 + d) / 10 ≡ x = rw g (before-column (eqb (i + 1) w) (getD s i 0) x e) in
@@ -183,6 +198,85 @@ module _ (w : ℕ) (s : List ℕ) (i x d : ℕ) (r : Bool) (n : length s ≡ w) 
       let a : take (suc i) s ≡ take i s ++ (getD s i 0 ∷ []) = take-suc s i 0 (omega arith) in
       let z : take (suc i) s ≡ columnsTo (eqb (i + 1) w) (suc i) (x * 10 + d) = a ∙ rw (f, b) in
       ap (λ (j : ℕ). take j s) (add-one i) ∙ z ∙ ap (λ (j : ℕ). columnsTo (eqb (i + 1) w) j (x * 10 + d)) (sym (add-one i))
+
+-- what is known when i columns have been read, with the value x: a number that has not begun begins now, or in the last column
+pub record Read-to (w : ℕ) (s : List ℕ) (i x : ℕ) : Type 0 where
+  pub high : i ≤ w
+  pub value : x ≡ valueOf i s
+  pub text : take i s ≡ columnsTo (eqb i w) i x
+  pub begins : x ≡ 0 → i + 1 < w → (getD s i 0 ≡ 32 → ⊥) × (getD s i 0 ≡ 48 → ⊥)
+
+-- spaces in front
+blanks : (s : List ℕ) (i : ℕ) → i ≤ length s → ((j : ℕ) → j < i → getD s j 0 ≡ 32) → (valueOf i s ≡ 0) × (take i s ≡ columnsTo false i 0)
+unfolding valueOf columnsTo column
+blanks s zero h b = (refl, refl)
+blanks s (suc i) h b =
+    let r = blanks s i (omega arith) (λ j l. b j (omega arith)) in
+    (rw (r .0, b i (omega arith)), take-suc s i 0 h ∙ rw (r .1, b i (omega arith)))
+
+module _ (w : ℕ) (s : List ℕ) (i : ℕ) (n : length s ≡ w) (f : i ≡ first (begun s) (w - 1)) where
+  found : Least (begun s) (w - 1) i
+  found = rw f (first-least (begun s) (w - 1))
+
+  pub begun-high : i ≤ w
+  begun-high = omega (arith, found .high)
+
+  front : (valueOf i s ≡ 0) × (take i s ≡ columnsTo false i 0)
+  unfolding begun
+  front = blanks s i (omega (arith, found .high)) (λ j l. eqb-true (getD s j 0) 32 (not-false (eqb (getD s j 0) 32) (found .before j l)))
+
+  -- a zero in front of others
+  pub zero-led : ltb (i + 1) w && eqb (getD s i 0) 48 ≡ true → Fault ≡ fieldOf w s
+  unfolding column
+  zero-led t =
+      let l : i + 1 < w = ltb-true (i + 1) w (and-l (ltb (i + 1) w) _ t) in
+      let z : getD s i 0 ≡ 48 = eqb-true (getD s i 0) 48 (and-r (ltb (i + 1) w) _ t) in
+      fault-at w s i 0 0 n (omega arith) (sym (front .0)) (rw z) (λ e. absurd (omega (arith, rw (z, ne-eqb (i + 1) w (λ q. omega arith)) at e)))
+
+  pub begun-read : ltb (i + 1) w && eqb (getD s i 0) 48 ≡ false → Read-to w s i 0
+  unfolding begun columnsTo
+  begun-read t = record {
+    high = omega (arith, found .high);
+    value = sym (front .0);
+    text = elim (split? i w) [
+      | inl l ↦ front .1 ∙ rw (ne-eqb i w (λ q. omega arith))
+      | inr l ↦ (let e : i ≡ 0 = omega (arith, found .high) in rw e)
+    ];
+    begins = λ z l. (
+      λ e. clash (begun s i) (found .at (omega arith)) (ap not (eq-eqb (getD s i 0) 32 e)),
+      λ e. clash (ltb (i + 1) w && eqb (getD s i 0) 48) (lt-ltb (i + 1) w l & eq-eqb (getD s i 0) 48 e) t,
+    );
+  }
+
+-- a column more
+module _ (w : ℕ) (s : List ℕ) (i x : ℕ) (n : length s ≡ w) (h : i < w) (r : Read-to w s i x) (b : Bool)
+    (t : b ≡ (leb 48 (getD s i 0) && leb (getD s i 0) 57)) where
+  goes-on : eqb (i + 1) w ≡ false → i + 1 < w
+  goes-on l = elim (split? (i + 1) w) [ inl k ↦ k | inr k ↦ absurd (eqb-false (i + 1) w l (omega arith)) ]
+
+  pub digit-lacks : not b ≡ true → Fault ≡ fieldOf w s
+  digit-lacks q =
+      fault-at w s i x (getD s i 0 % 16) n h (r .value) refl
+      (no-digit (eqb (i + 1) w) (getD s i 0) (x * 10 + getD s i 0 % 16) (sym t ∙ not-true b q)
+      (λ z l. r .begins (omega arith) (goes-on l) .0))
+
+  pub digit-more : not b ≡ false → (d : ℕ) → d ≡ getD s i 0 % 16 → Read-to w s (i + 1) (x * 10 + d)
+  digit-more q d g =
+      let y : leb 48 (getD s i 0) && leb (getD s i 0) 57 ≡ true = sym t ∙ not-false b q in
+      record {
+        high = omega arith;
+        value = value-turn w s i x d n h (r .value) g;
+        text = column-read w s i x d n h (r .value) g (r .text)
+            (digit-read (eqb (i + 1) w) (getD s i 0) (x * 10 + d) y (omega arith) (λ z l. r .begins (omega arith) (goes-on l) .1));
+        begins = λ z l. absurd (r .begins (omega arith) (omega arith) .1 (zero-byte y z));
+      }
+    where
+      -- the digit of nothing
+      zero-byte : leb 48 (getD s i 0) && leb (getD s i 0) 57 ≡ true → x * 10 + d ≡ 0 → getD s i 0 ≡ 48
+      zero-byte y z =
+          let lo : 48 ≤ getD s i 0 = leb-true 48 _ (and-l (leb 48 (getD s i 0)) _ y) in
+          let hi : getD s i 0 ≤ 57 = leb-true _ 57 (and-r (leb 48 (getD s i 0)) _ y) in
+          omega arith
 
 pub number-read : (w : ℕ) (s : List ℕ) (i x : ℕ) → length s ≡ w → i ≤ w → w ≤ i → x ≡ valueOf i s → take i s ≡ columnsTo (eqb i w) i x → Number x ≡ fieldOf w s
 unfolding fieldOf columns

@@ -28,6 +28,10 @@ unfoldable pub valueOf : ℕ → List ℕ → ℕ
 valueOf zero s = 0
 valueOf (suc w) s = valueOf w s * 10 + getD s w 0 % 16
 
+-- the number has begun: no space stands in column i
+unfoldable pub begun : List ℕ → ℕ → Bool
+begun s i = not (eqb (getD s i 0) 32)
+
 -- two lists of bytes are the same
 unfoldable pub sameBytes : List ℕ → List ℕ → Bool
 sameBytes [] [] = true

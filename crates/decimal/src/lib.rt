@@ -2,11 +2,13 @@
 // text, and the copying of bytes, that readers and writers of lines need.
 ghost use mathlib.Core.Path.{_≡_};
 ghost use mathlib.Core.List.{[], _∷_};
-ghost use Prim.Native.Nat.{_+_, _%_, _≤_, _<_};
-ghost use lib.Dec.{eqb};
-ghost use lib.ListN.{length, take, drop};
+ghost use mathlib.Core.Bool.{_&&_};
+ghost use Prim.Native.Nat.{_+_, _-_, _%_, _≤_, _<_};
+ghost use lib.Dec.{eqb, leb, ltb};
+ghost use lib.ListN.{length, getD, take, drop};
 ghost use lib.Seq.{sets};
-ghost use Rattle.decimal.specs.Decimal.{column, columns, sameBytes, fieldOf, fieldAt};
+ghost use Rattle.bounded.specs.Bounded.{first};
+ghost use Rattle.decimal.specs.Decimal.{begun, column, columns, sameBytes, fieldOf, fieldAt};
 
 // What a number field holds.
 pub enum Field {
@@ -66,21 +68,43 @@ fn shown(q: usize, last: bool) -> u8
     b' '
 }
 
-// Whether b stands rightly in the column with which the number x ends: a digit, once the number has begun.
-fn is_shown(b: u8, x: usize, last: bool) -> bool
-    requires { ⌜ x % 10 ≡ b % 16 % 10 ⌝ }
-    ensures { λ r. ⌜ r ≡ eqb b (column last x) ⌝ }
+// Where the number begins among w columns: after the spaces in front, in the last column at the latest.
+fn begin(s: &[u8], w: usize) -> usize
+    requires { ⌜ w ≤ length (now s) ⌝ }
+    ensures { λ r. ⌜ r ≡ first (begun (now (s .entry))) (w - 1) ⌝ }
 {
-    if x == 0 {
-        return b == shown(x, last);
+    let mut i = 0;
+    while i + 1 < w {
+        if s[i] != b' ' {
+            return i;
+        }
+        i += 1;
     }
+    i
+}
+
+// Whether a number of w columns that begins at i begins with a zero and goes on.
+fn leads_zero(s: &[u8], w: usize, i: usize) -> bool
+    requires { ⌜ (w ≤ length (now s)) × (i ≤ w) ⌝ }
+    ensures { λ r. ⌜ r ≡ (ltb (i + 1) w && eqb (getD (now (s .entry)) i 0) 48) ⌝ }
+{
+    if i + 1 < w {
+        return s[i] == b'0';
+    }
+    false
+}
+
+// Whether b is a digit.
+fn is_digit(b: u8) -> bool
+    ensures { λ r. ⌜ r ≡ (leb 48 b && leb b 57) ⌝ }
+{
     if b < b'0' {
         return false;
     }
     b <= b'9'
 }
 
-// Reads a field of w columns: each byte must be the column of the number that ends with it.
+// Reads a field of w columns: spaces, then digits, and no zero in front of others.
 pub fn read_field(s: &[u8], w: usize) -> Field
     requires { ⌜ w ≤ 12 ⌝ }
     ensures { λ r. ⌜ r ≡ fieldOf w (now (s .entry)) ⌝ }
@@ -88,14 +112,17 @@ pub fn read_field(s: &[u8], w: usize) -> Field
     if s.len() != w {
         return Field::Fault;
     }
+    let mut i = begin(s, w);
+    if leads_zero(s, w, i) {
+        return Field::Fault;
+    }
     let mut x = 0;
-    let mut i = 0;
     while i < w {
         let b = s[i];
-        x = x * 10 + digit(b);
-        if !is_shown(b, x, i + 1 == w) {
+        if !is_digit(b) {
             return Field::Fault;
         }
+        x = x * 10 + digit(b);
         i += 1;
     }
     Field::Number(x)

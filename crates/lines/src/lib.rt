@@ -159,6 +159,13 @@ pub fn read_kinds(s: &[u8], at: usize, n: usize) -> Kinds
     }
 }
 
+// The links as far as they were read.
+fn links_so_far(judged: Judged, from: [u8; 512], to: [u8; 512]) -> Links
+    ensures { λ r. ⌜ r ≡ record { judged = judged; from = from; to = to } ⌝ }
+{
+    Links { judged, from, to }
+}
+
 // Reads the lines of m links, which start at at, in a plan of n bookings.
 pub fn read_links(s: &[u8], at: usize, n: usize, m: usize) -> Links
     requires { ⌜ (n ≤ mostBookings) × (m ≤ mostLinks) × (at < 65536) ⌝ }
@@ -179,25 +186,13 @@ pub fn read_links(s: &[u8], at: usize, n: usize, m: usize) -> Links
                 pv = v as usize;
             }
             Link::Malformed => {
-                return Links {
-                    judged: Judged::Form(n + 2 + i),
-                    from,
-                    to,
-                };
+                return links_so_far(Judged::Form(n + 2 + i), from, to);
             }
             Link::OutOfSequence => {
-                return Links {
-                    judged: Judged::Sequence(n + 2 + i),
-                    from,
-                    to,
-                };
+                return links_so_far(Judged::Sequence(n + 2 + i), from, to);
             }
         }
         i += 1;
     }
-    Links {
-        judged: Judged::Fine,
-        from,
-        to,
-    }
+    links_so_far(Judged::Fine, from, to)
 }

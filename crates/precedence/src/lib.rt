@@ -32,8 +32,7 @@ pub fn closure(d: [u64; 64]) -> [u64; 64]
     for k in 0..64 {
         // a step through k changes nothing where nothing comes before k
         if p[k] != 0 {
-            let q = through(p, k);
-            p = q;
+            p = through(p, k);
         }
     }
     p

@@ -4,6 +4,7 @@ use plan::Judged;
 use plan::Plan;
 ghost use mathlib.Core.Path.{_≡_};
 ghost use Prim.Native.Nat.{_≤_};
+ghost use Rattle.plan.specs.declared.Judged.the-variants.{Fine};
 ghost use Rattle.plan.specs.Limits.{mostBookings, mostLinks, mostWays};
 ghost use Rattle.sheet.specs.Sheet.{refusedOf, bodyOf, sheetOf};
 
@@ -27,6 +28,16 @@ pub fn refused(j: Judged) -> Sheet
         way: [0u64; 16],
     };
     Sheet { judged: j, plan }
+}
+
+// A sheet without a fault, with its plan.
+fn fine(plan: Plan) -> Sheet
+    ensures { λ r. ⌜ r ≡ record { judged = Fine; plan = plan } ⌝ }
+{
+    Sheet {
+        judged: Judged::Fine,
+        plan,
+    }
 }
 
 // Reads the lines after the head of a sheet with n bookings, m links and a ways.
@@ -66,10 +77,7 @@ pub fn read_body(s: &[u8], n: usize, m: usize, a: usize) -> Sheet
         to,
         way,
     };
-    Sheet {
-        judged: Judged::Fine,
-        plan,
-    }
+    fine(plan)
 }
 
 // Reads a sheet, whatever its bytes are and however many.

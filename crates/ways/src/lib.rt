@@ -139,6 +139,13 @@ pub fn read_way(s: &[u8], at: usize, n: usize) -> Way
     }
 }
 
+// The ways as far as they were read.
+fn ways_so_far(judged: Judged, next: usize, way: [u64; 16]) -> Ways
+    ensures { λ r. ⌜ r ≡ record { judged = judged; next = next; way = way } ⌝ }
+{
+    Ways { judged, next, way }
+}
+
 // Reads a way lines from at on, of a plan with n bookings; the first of them is line first.
 pub fn read_ways(s: &[u8], at: usize, n: usize, a: usize, first: usize) -> Ways
     requires { ⌜ (n ≤ mostBookings) × (a ≤ mostWays) × (at < 16384) × (first < 16384) ⌝ }
@@ -154,34 +161,18 @@ pub fn read_ways(s: &[u8], at: usize, n: usize, a: usize, first: usize) -> Ways
                 next = next + 6 + 4 * k;
             }
             Way::Malformed => {
-                return Ways {
-                    judged: Judged::Form(first + i),
-                    next,
-                    way,
-                };
+                return ways_so_far(Judged::Form(first + i), next, way);
             }
             Way::OutOfLimits => {
-                return Ways {
-                    judged: Judged::Count(first + i),
-                    next,
-                    way,
-                };
+                return ways_so_far(Judged::Count(first + i), next, way);
             }
             Way::OutOfSequence => {
-                return Ways {
-                    judged: Judged::Sequence(first + i),
-                    next,
-                    way,
-                };
+                return ways_so_far(Judged::Sequence(first + i), next, way);
             }
         }
         i += 1;
     }
-    Ways {
-        judged: Judged::Fine,
-        next,
-        way,
-    }
+    ways_so_far(Judged::Fine, next, way)
 }
 
 // Writes the number of booking b where it is in s, and gives the place after it.

@@ -1,62 +1,61 @@
+-- `decimal::read_field` meets its contract.
+-- Assumes nothing.
+use mathlib.Core.Path.{_≡_, sym, _∙_}
 use denote.Ref.{now}
-use Prim.Native.Nat.{_≤_, _<_, _-_, _*_, _^_}
-use mathlib.Core.Path.{_≡_}
+use lib.ListN.{length}
+use Prim.Native.Nat.{_<_, _-_, _*_, _^_}
 use native.Mathlib.Omega.{arith}
-use lib.ListN.{take}
-use lib.Dec.{eqb}
 use borrow.Author.Needs.{needs}
-use Rattle.decimal.specs.Decimal.{columnsTo, valueOf}
-use Rattle.decimal.proofs.Laws.{fault-length, fault-at, column-read, value-turn, number-read, room}
+use Rattle.decimal.proofs.Laws.{Read-to, fault-length, zero-led, begun-high, begun-read, digit-lacks, digit-more, number-read, room}
 use Rattle.decimal.proofs.read_field.Statement.{statement}
 use Rattle.decimal.proofs.read_field.Tie as tie
 
 abbrev Inv-loop : tie.InvT-loop
-Inv-loop s w x₀ i₀ x i = (i ≤ w) × (x ≡ valueOf i s) × (take i s ≡ columnsTo (eqb i w) i x)
+Inv-loop s w i₀ x₀ i x = Read-to w s i x
 
 abbrev μ-loop : tie.MeasureT-loop
-μ-loop s w x₀ i₀ x i = w - i
+μ-loop s w i₀ x₀ i x = w - i
 
 returns : tie.Need-returns Inv-loop μ-loop
 returns c = fault-length _ _ (c .if1 .taken)
 
-loop-holds : tie.Need-loop-holds Inv-loop μ-loop
-unfolding valueOf columnsTo
-loop-holds c = search needs
+begin-requires : tie.Need-begin-requires Inv-loop μ-loop
+begin-requires c κs = omega (arith, c .if1 .left)
 
--- the value before a column leaves room for one digit more
-roomy : (c : tie.At-loop Inv-loop μ-loop) → c .loop .i < c .before .before .before .args .w → c .loop .x < 2 * 10 ^ 12
-roomy c h = room (c .loop .i) (now (c .before .before .before .args .s)) (c .loop .x) (omega arith) (c .loop .inv .1)
-
-mul-x : tie.Need-mul-x Inv-loop μ-loop
-mul-x c = omega (arith, roomy (c .before .before) (c .before .loop-test .taken))
-
-add-x : tie.Need-add-x Inv-loop μ-loop
-add-x c = omega (arith, roomy (c .before .before .before) (c .before .before .loop-test .taken))
-
-is-shown-requires : tie.Need-is-shown-requires Inv-loop μ-loop
-is-shown-requires c κs = omega (arith, c .digit .ensures)
+leads-zero-requires : tie.Need-leads-zero-requires Inv-loop μ-loop
+leads-zero-requires c κs = (omega (arith, c .before .if1 .left), begun-high _ _ _ (c .before .if1 .left) (c .begin .ensures))
 
 returns-2 : tie.Need-returns-2 Inv-loop μ-loop
-returns-2 c =
-    let d = c .before .before in
-    let l = d .before .before .before in
-    let a = l .before .before .before .args in
-    fault-at (a .w) (now (a .s)) (l .loop .i) _ _ _ (l .before .if1 .left) (d .before .before .loop-test .taken) (l .loop .inv .1) (d .digit .ensures) (c .before .is-shown .ensures) (c .if2 .taken)
+returns-2 c = let b = c .before .before in zero-led _ _ _ (b .before .if1 .left) (b .begin .ensures) (sym (c .before .leads-zero .ensures) ∙ c .if2 .taken)
+
+loop-holds : tie.Need-loop-holds Inv-loop μ-loop
+loop-holds c = let b = c .before .before in begun-read _ _ _ (b .before .if1 .left) (b .begin .ensures) (sym (c .before .leads-zero .ensures) ∙ c .if2 .left)
+
+-- the facts at the test of a digit
+abbrev told : (c : tie.At-loop Inv-loop μ-loop) → length (now (c .before .before .before .before .before .before .args .s)) ≡ c .before .before .before .before .before .before .args .w
+told c = c .before .before .before .before .if1 .left
+
+-- the value before a column leaves room for one digit more
+roomy : (c : tie.At-loop Inv-loop μ-loop) → c .loop .i < c .before .before .before .before .before .before .args .w → c .loop .x < 2 * 10 ^ 12
+roomy c h = let a = c .before .before .before .before .before .before in room (c .loop .i) (now (a .args .s)) (c .loop .x) (omega (arith, a .pre)) (c .loop .inv .value)
+
+returns-3 : tie.Need-returns-3 Inv-loop μ-loop
+returns-3 c = let l = c .before .before .before .before in digit-lacks _ _ (l .loop .i) _ (told l) (c .before .before .before .loop-test .taken) (l .loop .inv) _ (c .before .is-digit .ensures) (c .if3 .taken)
+
+mul-x : tie.Need-mul-x Inv-loop μ-loop
+mul-x c = omega (arith, roomy (c .before .before .before .before) (c .before .before .before .loop-test .taken))
+
+add-x : tie.Need-add-x Inv-loop μ-loop
+add-x c = omega (arith, roomy (c .before .before .before .before .before) (c .before .before .before .before .loop-test .taken))
 
 loop-again : tie.Need-loop-again Inv-loop μ-loop
 loop-again c =
-    let d = c .before .before in
-    let l = d .before .before .before in
-    let a = l .before .before .before .args in
-    let h = d .before .before .loop-test .taken in (
-      search needs,
-      value-turn (a .w) (now (a .s)) (l .loop .i) _ _ _ (l .before .if1 .left) h (l .loop .inv .1) (d .digit .ensures) (c .before .is-shown .ensures),
-      column-read (a .w) (now (a .s)) (l .loop .i) _ _ _ (l .before .if1 .left) h (l .loop .inv .1) (d .digit .ensures) (c .before .is-shown .ensures)
-          (l .loop .inv .2) (c .if2 .left),
-    )
+    let l = c .before .before .before .before .before in
+    digit-more _ _ (l .loop .i) _ (told l) (c .before .before .before .before .loop-test .taken) (l .loop .inv) _ (c .before .before .is-digit .ensures)
+    (c .before .if3 .left) _ (c .digit .ensures)
 
-returns-3 : tie.Need-returns-3 Inv-loop μ-loop
-returns-3 c = search number-read
+returns-4 : tie.Need-returns-4 Inv-loop μ-loop
+returns-4 c = let l = c .before .loop in number-read _ _ (l .i) (l .x) (told (c .before)) (l .inv .high) (c .loop-test .left) (l .inv .value) (l .inv .text)
 
 pub read-field-spec : {M : Type 1} → statement M
 read-field-spec =
@@ -65,15 +64,17 @@ read-field-spec =
     Inv-loop
     μ-loop
     returns
+    begin-requires
+    leads-zero-requires
+    returns-2
     loop-holds
     (search needs)
+    (search needs)
+    returns-3
     mul-x
     (search needs)
     add-x
     (search needs)
-    is-shown-requires
-    returns-2
-    (search needs)
     (search needs)
     loop-again
-    returns-3)
+    returns-4)

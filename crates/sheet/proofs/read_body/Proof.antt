@@ -1,4 +1,5 @@
 use Rattle.sheet.proofs.SheetLaws.{kinds-refused, links-refused, ways-refused, bytes-remain, all-read}
+use mathlib.Core.Path.{_∙_}
 use borrow.Author.Needs.{needs}
 use Rattle.sheet.proofs.read_body.Statement.{statement}
 use Rattle.sheet.proofs.read_body.Tie as tie
@@ -16,7 +17,7 @@ returns-4 : tie.Need-returns-4
 returns-4 c = search (bytes-remain, c .before .if4 .taken)
 
 returns-5 : tie.Need-returns-5
-returns-5 c = search all-read
+returns-5 c = c .fine .ensures ∙ search all-read
 
 pub read-body-spec : {M : Type 1} → statement M
 read-body-spec =
@@ -47,4 +48,5 @@ read-body-spec =
     (search needs)
     (search needs)
     returns-4
+    (search needs)
     returns-5)

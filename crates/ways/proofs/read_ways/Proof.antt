@@ -4,7 +4,7 @@ use native.Mathlib.Omega.{arith}
 use native.Mathlib.Nat.{sub-zero}
 use lib.ListN.{length, drop}
 use Prim.Native.Nat.{_+_, _*_, _-_, _≤_}
-use mathlib.Core.Path.{_≡_, refl}
+use mathlib.Core.Path.{_≡_, refl, _∙_}
 use Rattle.ways.specs.Ways.{waysOf, noWays}
 use Rattle.ways.proofs.read_ways.Statement.{statement}
 use Rattle.ways.proofs.read_ways.Tie as tie
@@ -30,19 +30,19 @@ add-next-2 : tie.Need-add-next-2 Inv-loop μ-loop
 add-next-2 c = omega (arith, few c)
 
 returns : tie.Need-returns Inv-loop μ-loop
-returns c = search ways-form
+returns c = c .ways-so-far .ensures ∙ search ways-form
 
 returns-2 : tie.Need-returns-2 Inv-loop μ-loop
-returns-2 c = search ways-count
+returns-2 c = c .ways-so-far2 .ensures ∙ search ways-count
 
 returns-3 : tie.Need-returns-3 Inv-loop μ-loop
-returns-3 c = search ways-sequence
+returns-3 c = c .ways-so-far3 .ensures ∙ search ways-sequence
 
 loop-again : tie.Need-loop-again Inv-loop μ-loop
 loop-again c = (search needs, search needs, omega (arith, few c), search ways-on)
 
 returns-4 : tie.Need-returns-4 Inv-loop μ-loop
-returns-4 c = search ways-end
+returns-4 c = c .ways-so-far4 .ensures ∙ search ways-end
 
 pub read-ways-spec : {M : Type 1} → statement M
 read-ways-spec =
@@ -60,14 +60,18 @@ read-ways-spec =
     add-next-2
     (search needs)
     (search needs)
+    (search needs)
     returns
     (search needs)
     (search needs)
+    (search needs)
     returns-2
+    (search needs)
     (search needs)
     (search needs)
     returns-3
     (search needs)
     (search needs)
     loop-again
+    (search needs)
     returns-4)
