@@ -19,8 +19,10 @@
  *
  * Nothing is kept between the calls: all of a campaign stands in its sheet and
  * its state. Store the state before an order is sent and a run can go on after
- * a crash. Calls on different states may run at the same time; while a call
- * runs, nobody else may write its sheet or touch its state.
+ * a crash; whether the last order was sent is then for the dispatcher to find
+ * out, for the state says only that it was given. Calls on different states may
+ * run at the same time; while a call runs, nobody else may write its sheet or
+ * touch its state.
  *
  * Pointers must not be null and must reach as many bytes as their length says;
  * sheet and state must not overlap. Beyond that every byte and every length is
@@ -144,8 +146,9 @@ enum campaign_refusal {
     /* A buffer is too short for the text to be written (0). None of the four
        calls gives it. */
     CAMPAIGN_SHORT_BUFFER = 10,
-    /* The state has not 65 bytes, or is none that a run of this sheet can
-       reach by these rules: damaged, or of another sheet (0). */
+    /* The state is not sound: it has not 65 bytes, or its bytes contradict the
+       sheet or each other, being damaged or of another sheet (0). A change that
+       leaves a sound state is not noticed. */
     CAMPAIGN_UNSOUND = 11
 };
 

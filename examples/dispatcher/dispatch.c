@@ -328,6 +328,12 @@ static bool ended(struct run *run, uint32_t answer)
     return campaign_kind_of(answer) == CAMPAIGN_FLOWN ? flown(run, answer) : called_off(run, answer);
 }
 
+/* Waiting and ending change nothing. */
+static bool unchanged(const struct run *run, uint32_t answer)
+{
+    return books_agree(run) || blame(run, "state and books differ where no order was given", answer);
+}
+
 /* After an order a quick desk may answer before the next one is fetched. */
 static bool after_order(struct run *run)
 {
@@ -342,9 +348,9 @@ static bool run_to_end(struct run *run)
         switch (campaign_kind_of(answer)) {
         case CAMPAIGN_REQUEST: good = send_request(run, answer) && after_order(run); break;
         case CAMPAIGN_RETURN: good = send_return(run, answer) && after_order(run); break;
-        case CAMPAIGN_WAIT: good = books_agree(run) && hear_a_desk(run); break;
+        case CAMPAIGN_WAIT: good = unchanged(run, answer) && hear_a_desk(run); break;
         case CAMPAIGN_FLOWN:
-        case CAMPAIGN_CALLED_OFF: return ended(run, answer);
+        case CAMPAIGN_CALLED_OFF: return unchanged(run, answer) && ended(run, answer);
         default: return blame(run, "next order was refused in the middle of a campaign", answer);
         }
         if (!good)

@@ -63,7 +63,7 @@ static void expect_byte(struct reading *r, int byte)
         r->fault = true;
 }
 
-/* A number in four columns. */
+/* A number in four columns, without leading zeros. */
 static unsigned take_number(struct reading *r)
 {
     unsigned value = 0;
@@ -71,6 +71,8 @@ static unsigned take_number(struct reading *r)
     for (int column = 0; column < 4; column++) {
         int byte = take_byte(r);
         if (byte >= '0' && byte <= '9') {
+            if (digits && value == 0)
+                r->fault = true;
             value = value * 10 + (unsigned) (byte - '0');
             digits = true;
         } else if (byte != ' ' || digits) {

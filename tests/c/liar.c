@@ -39,6 +39,8 @@ uint32_t __wrap_campaign_next_order(const uint8_t *sheet, size_t sheet_len, uint
         return answer + 1;
     if (lie_is("never changes the state") && kind == CAMPAIGN_REQUEST)
         state[campaign_place_of(answer)] = CAMPAIGN_FREE;
+    if (lie_is("writes while it waits") && kind == CAMPAIGN_WAIT)
+        state[1] ^= 1;
     return answer;
 }
 

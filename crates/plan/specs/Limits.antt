@@ -4,7 +4,8 @@ use mathlib.Core.Bool.{Bool, _&&_, _||_}
 use Prim.Native.Nat.{ℕ}
 use lib.Dec.{eqb, leb, ltb}
 
--- at most so many bookings, links and ways: the only place in the definitions that names them
+-- at most so many bookings, links and ways. These are the limits that are judged; that sets, arrays and states have 64 places, and arrays of
+-- ways 16, is written as a number where they are defined
 abbrev pub mostBookings : ℕ
 mostBookings = 64
 

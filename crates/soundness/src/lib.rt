@@ -1,4 +1,4 @@
-// Whether a state is sound: a test for each sentence of the rule, on whole sets of bookings.
+// Whether a state is sound: a test for each sentence of the rule, on whole sets of bookings. The sentences are defined in crate run.
 use run::Run;
 use verdict::Network;
 ghost use mathlib.Core.Path.{_≡_};

@@ -1,4 +1,4 @@
-// What the rules look at in a plan that has been read and whose precedence is closed, and the check: refusals 4 to 8.
+// A plan as the rules look at it, its links closed to chains; and the check of it: refusals 4 to 8.
 use plan::Plan;
 ghost use mathlib.Core.Path.{_≡_};
 ghost use mathlib.Core.Bool.{not, _&&_, _||_, cond};
