@@ -1,14 +1,14 @@
 -- The laws of Bool, and the case splits on numbers, that every other proof uses.
 -- A fact about a test is an equation with true or false.
 -- Assumes nothing.
-use mathlib.Core.Path.{_≡_, refl, sym, _∙_}
+use mathlib.Core.Path.{_≡_, refl, sym, ap, _∙_}
 use mathlib.Core.Logic.{_≢_, _⊎_, inl, inr}
 use mathlib.Core.Bool.{Bool, true, false, not, _&&_, _||_, cond}
 use Prim.Native.Nat.{ℕ, suc, _≤_, _<_, zero}
 use native.Mathlib.Nat.{le-of-suc-le-suc, eq-or-lt-of-le, not-suc-le-zero}
 use native.Mathlib.Omega.{arith}
 use lib.Dec.{eqb, ltb}
-use borrow.Author.Tests.{ltb-true, ltb-false, not-true, not-false}
+use borrow.Author.Tests.{ltb-true, ltb-false, eq-eqb, ne-eqb, not-true, not-false}
 use native.Mathlib.Decide.{ℕ-discrete}
 use Rattle.bounded.specs.Bounded.{imp, one}
 
@@ -141,6 +141,13 @@ imp-e a b p q = cc
 pub imp-i : (a b : Bool) → (a ≡ true → b ≡ true) → imp a b ≡ true
 imp-i true b h = h refl
 imp-i false b h = refl
+
+-- neither of two tests, in the other order, one of them that two numbers are equal
+pub neither : (i j : ℕ) (b : Bool) → not (b || eqb j i) ≡ not (eqb i j) && not b
+neither i j b = ap not (or-swap b (eqb j i)) ∙ elim (same? i j) [
+  | inl p ↦ rw (eq-eqb i j p, eq-eqb j i (sym p))
+  | inr d ↦ rw (ne-eqb i j d, ne-eqb j i (λ e. d (sym e)))
+]
 
 pub or-imp : (a b : Bool) → a || b ≡ imp (not a) (not (not b))
 or-imp true true = refl

@@ -1,3 +1,4 @@
+-- The laws of crate `bounded`.
 pub mod Bools
 pub mod Tests
 pub mod First

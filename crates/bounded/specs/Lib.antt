@@ -1,1 +1,2 @@
+-- The definitions of crate `bounded`.
 pub mod Bounded

@@ -35,12 +35,7 @@ fn judged_bits(j: Judged) -> u32
     requires { ⌜ judgedPlace j < 65536 ⌝ }
     ensures { λ r. ⌜ r ≡ judgedBits j ⌝ }
 {
-    match j {
-        Judged::Fine => pack(0, 0, 0),
-        Judged::Form(l) => pack(0, 1, l),
-        Judged::Count(l) => pack(0, 2, l),
-        Judged::Sequence(l) => pack(0, 3, l),
-    }
+    pack(0, plan::judged_refusal(j), plan::judged_place(j))
 }
 
 // Refusals 4 to 8, with their place, or accepted.

@@ -1,3 +1,4 @@
+-- The laws of crate `decimal`.
 pub mod Bytes
 pub mod Laws
 pub mod Stores

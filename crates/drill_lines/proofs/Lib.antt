@@ -1,3 +1,4 @@
+-- The laws of crate `drill_lines`.
 pub mod PrintLaws
 pub mod ReplyLaws
 pub mod StepLaws

@@ -1,3 +1,4 @@
+-- The definitions of crate `drill_lines`.
 pub mod Printed
 pub mod Replies
 pub mod Steps

@@ -1,1 +1,2 @@
+-- The laws of crate `drill_run`.
 pub mod DrillLaws

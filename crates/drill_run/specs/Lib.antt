@@ -1,1 +1,2 @@
+-- The definitions of crate `drill_run`.
 pub mod Drilled

@@ -1,3 +1,5 @@
+-- The laws of crate `guarantee`.
+pub mod Numbers
 pub mod Change
 pub mod Switch
 pub mod Reply

@@ -6,23 +6,24 @@ use mathlib.Core.Bool.{true, false, _&&_, _||_}
 use Prim.Native.Nat.{ℕ, zero, suc, _+_, _*_, _≤_, _<_}
 use native.Mathlib.Nat.{le-refl}
 use native.Mathlib.Omega.{arith}
-use lib.Dec.{eqb, leb}
-use borrow.Author.Tests.{eq-eqb, ne-eqb, leb-true}
+use lib.Dec.{eqb}
+use borrow.Author.Tests.{eq-eqb, ne-eqb}
 use Rattle.bounded.specs.Bounded.{one}
 use Rattle.bounded.proofs.Bools.{same?, by-cond, clash}
 use Rattle.verdict.specs.Network.{inWay, firm, exposed, repeatable}
 use Rattle.verdict.specs.declared.Network.{Network}
-use Rattle.verdict.proofs.Facts.{Passes}
+use Rattle.verdict.proofs.Facts.{Passes, soft}
 use Rattle.run.specs.State.{code, put, turn, firstLive}
 use Rattle.run.specs.Replies.{Y, N, G, K, toSwitch, settle}
 use Rattle.run.specs.declared.Run.{Run}
 use Rattle.run.specs.declared.Ordered.{Ordered}
 use Rattle.run.specs.declared.Replied.{Replied}
-use Rattle.run.proofs.Facts.{Sound, soft}
+use Rattle.run.proofs.Facts.{Sound}
 use Rattle.run.proofs.Cases.{NextCase, blocked, gives, busy, asks, pends, over, flies, next-case, return-facts, request-facts, ReplyCase, misfit, confirmed as yes′, refused, again as again′, returned as returned′, kept, reply-case}
 use Rattle.guarantee.specs.Answers.{pack, kindOf, placeOf, orderBits, place9, replyBits}
 use Rattle.guarantee.specs.Machine.{Asked, nextOrder, replied, replyTo, answer, after}
 use Rattle.guarantee.specs.Counted.{sends, accepts, confirmed, returned, ordered, answered, event, again}
+use Rattle.guarantee.proofs.Numbers.{small-9}
 use Rattle.guarantee.proofs.Change.{Fits, hit, miss, change}
 use Rattle.guarantee.proofs.Reply.{requested-fits, requested-stopped, returning-fits, reply-sound}
 use Rattle.guarantee.proofs.Next.{return-fits, request-fits, next-sound}
@@ -37,10 +38,6 @@ kind-pack k f p h l = omega arith
 pub place-pack : (k f p : ℕ) → p < 65536 → placeOf (pack k f p) ≡ p
 unfolding placeOf pack
 place-pack k f p h = omega arith
-
-place9-lt : (b : ℕ) → place9 b < 65536
-unfolding place9
-place9-lt b = by-cond (λ (p : ℕ). p < 65536) {t = leb b 64} {a = b} {b = 0} (λ e. omega (arith, leb-true b 64 e)) (λ e. omega arith)
 
 -- ---- what the counts follow
 
@@ -164,7 +161,7 @@ module _ (g : Network) (ok : Passes g) (r : Run) (s : Sound g r) where
 
   refused-9 : (n : ℕ) → accepts (pack 0 9 (place9 n)) ≡ false
   unfolding accepts
-  refused-9 n = rw (kind-pack 0 9 (place9 n) (omega arith) (place9-lt n))
+  refused-9 n = rw (kind-pack 0 9 (place9 n) (omega arith) (omega (arith, small-9 n)))
 
   -- to a requested booking
   requested-moved : (l y v : ℕ) → (h : y < g .n) (m : code r y ≡ 1) (d1 : v ≤ 3) (d2 : v ≢ 1) (z : v ≡ 3 → exposed g y ≡ true) → Sound g (settle g (put r y v))

@@ -15,7 +15,7 @@ use Rattle.verdict.specs.Network.{inWay, before, pre, firm, returnable}
 use Rattle.verdict.specs.declared.Network.{Network}
 use Rattle.verdict.proofs.Facts.{Passes}
 use Rattle.run.specs.State.{code, is, coded, held, put, lostIn}
-use Rattle.run.specs.Orders.{standsOn, needed, toReturn, ready, toRequest}
+use Rattle.run.specs.Orders.{supports, needed, toReturn, ready, toRequest}
 use Rattle.run.specs.declared.Run.{Run}
 use Rattle.run.specs.declared.Ordered.{Ordered}
 use Rattle.run.specs.declared.Order.the-variants.{Wait}
@@ -39,7 +39,7 @@ module _ (g : Network) (ok : Passes g) (r : Run) (c : Core g r) where
 
   -- rule 2 finds a booking while one is held outside the current way: of these a last one in the order precedes nothing held
   pub no-loose : Idle g r → (b : ℕ) → code r b ≡ 2 → inWay g (r .way) b ≡ true
-  unfolding toReturn needed standsOn
+  unfolding toReturn needed supports
   no-loose i b e = elim (which (inWay g (r .way) b)) [
     | inl z ↦ z
     | inr o ↦
@@ -47,7 +47,7 @@ module _ (g : Network) (ok : Passes g) (r : Run) (c : Core g r) where
         let m = t .0 in
         let x = t .1 in
         let f : needed g r m ≡ false =
-        any-o (standsOn g r m) (g .n) (λ v l q.
+        any-o (supports g r m) (g .n) (λ v l q.
         let p : pre g m v ≡ true = and-r (is r 2 v || is r 4 v) _ q in
         elim (or-cases (is r 2 v) (is r 4 v) (and-l (is r 2 v || is r 4 v) _ q)) [
           | inl y ↦ clash (pre g m v) p (x .apart v l (y & not-i _ (outside m v (not-true _ (and-r (is r 2 m) _ (x .passes))) p)))
@@ -117,7 +117,7 @@ module _ (g : Network) (ok : Passes g) (r : Run) (s : Sound g r) where
       }
 
   pub return-fits : (x : ℕ) → lostIn g r (r .way) ≡ false → toReturn g r x ≡ true → Fits g r x 4
-  unfolding c′ needed standsOn returnable
+  unfolding c′ needed supports returnable
   return-fits x u e =
       let t = return-facts g r x e in
       let m : code r x ≡ 2 = t .held in
@@ -128,11 +128,11 @@ module _ (g : Network) (ok : Passes g) (r : Run) (s : Sound g r) where
         unlost = omega arith;
         ready = λ a w p. c′ .preds w x (omega arith) (λ z. absurd (omega arith)) p;
         lets = λ w a i p.
-            let k = any-n (standsOn g r x) (g .n) (t .loose) w (inside g r (c′ .past) w a) in
+            let k = any-n (supports g r x) (g .n) (t .loose) w (inside g r (c′ .past) w a) in
             let n1 : code r w ≢ 1 = c′ .quiet x w m (t .outside) in
-            let n2 : code r w ≢ 2 = λ z. clash (standsOn g r x w) (or-l (is r 2 w) _ (is-i r 2 w z) & p) k in
+            let n2 : code r w ≢ 2 = λ z. clash (supports g r x w) (or-l (is r 2 w) _ (is-i r 2 w z) & p) k in
             let n3 : code r w ≢ 3 = λ z. not-lost g ok r c′ u w z (i z) in
-            let n4 : code r w ≢ 4 = λ z. clash (standsOn g r x w) (or-r (is r 2 w) _ (is-i r 4 w z) & p) k in
+            let n4 : code r w ≢ 4 = λ z. clash (supports g r x w) (or-r (is r 2 w) _ (is-i r 4 w z) & p) k in
             absurd (omega (arith, c′ .codes w));
         shown = λ z. absurd (omega arith);
         asked = λ z. absurd (omega arith);

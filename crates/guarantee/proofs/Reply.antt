@@ -8,12 +8,12 @@ use native.Mathlib.Omega.{arith}
 use Rattle.bounded.proofs.Bools.{clash, same?}
 use Rattle.verdict.specs.Network.{inWay, firm, exposed}
 use Rattle.verdict.specs.declared.Network.{Network}
-use Rattle.verdict.proofs.Facts.{Passes}
+use Rattle.verdict.proofs.Facts.{Passes, soft}
 use Rattle.run.specs.State.{code, put}
 use Rattle.run.specs.Replies.{settle}
 use Rattle.run.specs.declared.Run.{Run}
 use Rattle.run.specs.declared.Replied.{Replied}
-use Rattle.run.proofs.Facts.{Core, Sound, soft}
+use Rattle.run.proofs.Facts.{Core, Sound}
 use Rattle.run.proofs.Cases.{ReplyCase, misfit, confirmed, refused, again, returned, kept}
 use Rattle.guarantee.proofs.Change.{Fits, hit, miss, change}
 use Rattle.guarantee.proofs.Switch.{settled}

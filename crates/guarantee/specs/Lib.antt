@@ -1,3 +1,4 @@
+-- The definitions of crate `guarantee`.
 pub mod Answers
 pub mod Machine
 pub mod Calls

@@ -1,1 +1,2 @@
+-- The laws of crate `line_writer`.
 pub mod WriteLaws

@@ -1,3 +1,4 @@
+-- The laws of crate `lines`.
 pub mod FormLaws
 pub mod HeadLaws
 pub mod BookingLaws
@@ -7,3 +8,4 @@ pub mod LinksLaws
 pub mod Lengths
 pub mod RoundTrip
 pub mod AllLines
+pub mod Places

@@ -1,3 +1,4 @@
+-- The definitions of crate `lines`.
 pub mod Form
 pub mod Head
 pub mod Booking

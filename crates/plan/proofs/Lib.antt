@@ -1,3 +1,4 @@
+-- The laws of crate `plan`.
 pub mod LimitLaws
 pub mod RecordLaws
 pub mod Valid

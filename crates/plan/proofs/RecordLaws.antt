@@ -2,13 +2,15 @@
 -- Assumes nothing.
 use mathlib.Core.Path.{_≡_, sym, refl}
 use mathlib.Core.Bool.{Bool, true, false, not}
+use Prim.Native.Nat.{_≤_}
+use native.Mathlib.Omega.{arith}
 use borrow.Author.Tests.{not-true, not-false}
 use Rattle.bounded.proofs.Bools.{and-l, clash, went}
 use Rattle.plan.specs.Limits.{limits}
 use Rattle.plan.specs.Record.{countsFit, entriesFit, recordOf}
 use Rattle.plan.specs.declared.Plan.{Plan}
 use Rattle.plan.specs.declared.Judgement.the-variants.{Fine, Count, Sequence}
-use Rattle.plan.specs.Judging.{isFine}
+use Rattle.plan.specs.Judging.{isFine, judgedRefusal}
 use Rattle.plan.specs.declared.Judged.{Judged}
 use Rattle.plan.specs.declared.Judged.the-variants as J
 use Rattle.plan.proofs.LimitLaws.{Limited, limited}
@@ -43,3 +45,9 @@ fine-is J.Fine e = refl
 fine-is (J.Form l) e = clash true refl (sym e)
 fine-is (J.Count l) e = clash true refl (sym e)
 fine-is (J.Sequence l) e = clash true refl (sym e)
+
+pub refusal-few : (j : Judged) → judgedRefusal j ≤ 3
+refusal-few J.Fine = omega arith
+refusal-few (J.Form l) = omega arith
+refusal-few (J.Count l) = omega arith
+refusal-few (J.Sequence l) = omega arith

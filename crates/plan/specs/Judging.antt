@@ -1,11 +1,9 @@
--- The refusals 1 to 3 as numbers: which one a judgement is, and its place, the line of a sheet or 0 for a record.
+-- The refusals 1 to 3 of a sheet as numbers: which one it is, and its place, the line.
 -- Assumes nothing.
 use mathlib.Core.Bool.{Bool, true, false}
 use Prim.Native.Nat.{ℕ}
 use Rattle.plan.specs.declared.Judged.{Judged}
 use Rattle.plan.specs.declared.Judged.the-variants.{Fine, Form, Count, Sequence}
-use Rattle.plan.specs.declared.Judgement.{Judgement}
-use Rattle.plan.specs.declared.Judgement.the-variants as R
 
 abbrev pub isFine : Judged → Bool
 isFine Fine = true
@@ -25,9 +23,3 @@ judgedPlace Fine = 0
 judgedPlace (Form l) = l
 judgedPlace (Count l) = l
 judgedPlace (Sequence l) = l
-
--- of a record, whose place is always 0
-abbrev pub judgementRefusal : Judgement → ℕ
-judgementRefusal R.Fine = 0
-judgementRefusal R.Count = 2
-judgementRefusal R.Sequence = 3

@@ -1,3 +1,4 @@
+-- The definitions of crate `plan`.
 pub mod Limits
 pub mod Judging
 pub mod Record

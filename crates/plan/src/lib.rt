@@ -5,7 +5,7 @@ ghost use lib.Dec.{ltb};
 ghost use Rattle.bounded.specs.Bounded.{all};
 ghost use Rattle.sets.specs.Sets.{sizeOf};
 ghost use Rattle.plan.specs.Limits.{mostBookings, mostLinks, mostWays, isKind, within, counted, limits, rises, inSequence};
-ghost use Rattle.plan.specs.Judging.{isFine};
+ghost use Rattle.plan.specs.Judging.{isFine, judgedRefusal, judgedPlace};
 ghost use Rattle.plan.specs.Record.{kindAt, linkAt, countAt, withinAt, countsFit, entriesFit, recordOf};
 
 // A plan: n bookings, m links, a ways. Entries past these counts have no meaning.
@@ -47,6 +47,30 @@ pub fn is_fine(j: Judged) -> bool
     }
 }
 
+// The number of a sheet's refusal, 0 if there is none.
+pub fn judged_refusal(j: Judged) -> u32
+    ensures { λ r. ⌜ r ≡ judgedRefusal j ⌝ }
+{
+    match j {
+        Judged::Fine => 0,
+        Judged::Form(_) => 1,
+        Judged::Count(_) => 2,
+        Judged::Sequence(_) => 3,
+    }
+}
+
+// The line that is refused, 0 if there is none.
+pub fn judged_place(j: Judged) -> usize
+    ensures { λ r. ⌜ r ≡ judgedPlace j ⌝ }
+{
+    match j {
+        Judged::Fine => 0,
+        Judged::Form(l) => l,
+        Judged::Count(l) => l,
+        Judged::Sequence(l) => l,
+    }
+}
+
 // Whether k is the letter of a kind.
 pub fn known_kind(k: u8) -> bool
     ensures { λ r. ⌜ r ≡ isKind k ⌝ }
@@ -71,7 +95,7 @@ pub fn is_within(lo: usize, x: usize, hi: usize) -> bool
 }
 
 // Whether the counts n, m and a are at most bs, ls and ws, with at least one booking and one way.
-pub fn are_counted(bs: usize, ls: usize, ws: usize, n: usize, m: usize, a: usize) -> bool
+fn are_counted(bs: usize, ls: usize, ws: usize, n: usize, m: usize, a: usize) -> bool
     ensures { λ r. ⌜ r ≡ counted bs ls ws n m a ⌝ }
 {
     if !is_within(1, n, bs) {
@@ -91,7 +115,7 @@ pub fn in_limits(n: usize, m: usize, a: usize) -> bool
 }
 
 // Whether the link from u to v comes after the link from pu to pv.
-pub fn rises(pu: usize, pv: usize, u: usize, v: usize) -> bool
+fn rises(pu: usize, pv: usize, u: usize, v: usize) -> bool
     ensures { λ r. ⌜ r ≡ rises pu pv u v ⌝ }
 {
     if pu < u {
@@ -117,7 +141,7 @@ pub fn in_sequence(n: usize, pu: usize, pv: usize, u: usize, v: usize) -> bool
 }
 
 // Whether each of the first n kinds is one.
-pub fn kinds_known(n: usize, kind: [u8; 64]) -> bool
+fn kinds_known(n: usize, kind: [u8; 64]) -> bool
     requires { ⌜ n ≤ mostBookings ⌝ }
     ensures { λ r. ⌜ r ≡ all (kindAt kind) n ⌝ }
 {
@@ -132,7 +156,7 @@ pub fn kinds_known(n: usize, kind: [u8; 64]) -> bool
 }
 
 // Whether the first m links join bookings of n and rise strictly.
-pub fn links_rise(n: usize, m: usize, from: [u8; 512], to: [u8; 512]) -> bool
+fn links_rise(n: usize, m: usize, from: [u8; 512], to: [u8; 512]) -> bool
     requires { ⌜ m ≤ mostLinks ⌝ }
     ensures { λ r. ⌜ r ≡ all (linkAt n from to) m ⌝ }
 {
@@ -153,14 +177,14 @@ pub fn links_rise(n: usize, m: usize, from: [u8; 512], to: [u8; 512]) -> bool
 }
 
 // Whether x has 1 to n members.
-pub fn has_count(x: u64, n: usize) -> bool
+fn has_count(x: u64, n: usize) -> bool
     ensures { λ r. ⌜ r ≡ within 1 (sizeOf x) n ⌝ }
 {
     is_within(1, sets::size(x), n)
 }
 
 // Whether each of the first a ways has 1 to n bookings.
-pub fn counts_fit(n: usize, a: usize, way: [u64; 16]) -> bool
+fn counts_fit(n: usize, a: usize, way: [u64; 16]) -> bool
     requires { ⌜ a ≤ mostWays ⌝ }
     ensures { λ r. ⌜ r ≡ all (countAt n way) a ⌝ }
 {
@@ -175,7 +199,7 @@ pub fn counts_fit(n: usize, a: usize, way: [u64; 16]) -> bool
 }
 
 // Whether x has no member from n on.
-pub fn is_below(x: u64, n: usize) -> bool
+fn is_below(x: u64, n: usize) -> bool
     requires { ⌜ n ≤ mostBookings ⌝ }
     ensures { λ r. ⌜ r ≡ ltb x (2 ^ n) ⌝ }
 {
@@ -186,7 +210,7 @@ pub fn is_below(x: u64, n: usize) -> bool
 }
 
 // Whether each of the first a ways has bookings of n alone.
-pub fn ways_fit(n: usize, a: usize, way: [u64; 16]) -> bool
+fn ways_fit(n: usize, a: usize, way: [u64; 16]) -> bool
     requires { ⌜ (n ≤ mostBookings) × (a ≤ mostWays) ⌝ }
     ensures { λ r. ⌜ r ≡ all (withinAt n way) a ⌝ }
 {
@@ -201,7 +225,7 @@ pub fn ways_fit(n: usize, a: usize, way: [u64; 16]) -> bool
 }
 
 // Whether every count of p is within its limits.
-pub fn record_counts(p: Plan) -> bool
+fn record_counts(p: Plan) -> bool
     ensures { λ r. ⌜ r ≡ countsFit p ⌝ }
 {
     if !in_limits(p.n, p.m, p.a) {
@@ -212,7 +236,7 @@ pub fn record_counts(p: Plan) -> bool
 }
 
 // Whether every entry of p is fine.
-pub fn record_entries(p: Plan) -> bool
+fn record_entries(p: Plan) -> bool
     requires { ⌜ (p .n ≤ mostBookings) × (p .m ≤ mostLinks) × (p .a ≤ mostWays) ⌝ }
     ensures { λ r. ⌜ r ≡ entriesFit p ⌝ }
 {

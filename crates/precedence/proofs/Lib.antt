@@ -1,2 +1,3 @@
+-- The laws of crate `precedence`.
 pub mod Steps
 pub mod Chains

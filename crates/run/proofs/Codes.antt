@@ -2,19 +2,19 @@
 -- Assumes nothing.
 use mathlib.Core.Path.{_≡_, refl, sym, ap, ap₂, _∙_}
 use mathlib.Core.Logic.{_≢_, inl, inr}
-use mathlib.Core.Bool.{Bool, true, not, _&&_, _||_}
+use mathlib.Core.Bool.{Bool, true, false, not, _&&_, _||_}
 use mathlib.Core.List.{List}
 use Prim.Native.Nat.{ℕ, zero, suc, _+_, _-_, _^_, _≤_, _<_}
 use native.Mathlib.Nat.{le-refl}
-use borrow.Author.Tests.{lt-ltb, le-ltb}
-use native.Mathlib.Numerals.{add-one}
 use native.Mathlib.Omega.{arith}
+use borrow.Author.Tests.{lt-ltb, le-ltb, not-true}
+use native.Mathlib.Numerals.{add-one}
 use lib.Dec.{eqb}
 use lib.ListN.{getD}
 use lib.Bits.{bitAnd, bitOr}
-use Rattle.bounded.specs.Bounded.{any, first}
-use Rattle.bounded.proofs.Bools.{which, and-assoc}
-use Rattle.bounded.proofs.Tests.{any-ext}
+use Rattle.bounded.specs.Bounded.{any, all, first}
+use Rattle.bounded.proofs.Bools.{which, clash, off, not-i, and-assoc}
+use Rattle.bounded.proofs.Tests.{any-ext, all-i, all-e}
 use Rattle.bounded.proofs.First.{first-ext}
 use Rattle.bounded.proofs.Loops.{So-far, first-at, first-over}
 use Rattle.sets.specs.Sets.{member, gather, without, subsetOf, disjointFrom}
@@ -26,18 +26,13 @@ use Rattle.sets.proofs.Facts.{gather-e}
 use Rattle.verdict.specs.declared.Network.{Network}
 use Rattle.verdict.specs.Network.{wayOf, inWay, before, pre, firm}
 use Rattle.run.specs.State.{is, coded, heldFirmAt, heldFirm, lostIn, live, liveAt, firstLive}
-use Rattle.run.specs.Orders.{standsOn, needed, toReturn, ready, toRequest}
+use Rattle.run.specs.Sound.{waysBefore, passedOver, earlierDead}
+use Rattle.run.specs.Orders.{supports, needed, toReturn, ready, toRequest}
 use Rattle.run.specs.declared.Run.{Run}
 
 -- a code in the array that holds them
 unfoldable pub codeIs : List ℕ → ℕ → ℕ → Bool
 codeIs code c b = eqb (getD code b 0) c
-
--- way w is entry w - 1
-pub way-entry : (g : Network) (w : ℕ) → w ≢ 0 → getD (g .way) (w - 1) 0 ≡ wayOf g w
-unfolding wayOf
-way-entry g zero d = absurd (d refl)
-way-entry g (suc k) d = ap (λ (i : ℕ). getD (g .way) i 0) (omega arith)
 
 module _ (g : Network) (r : Run) where
   pub held-firm-is : (s : ℕ) → s ≡ gather (is r 2) (g .n) → bitAnd s (g .firm) ≡ heldFirm g r
@@ -65,6 +60,30 @@ module _ (g : Network) (r : Run) (l f : ℕ) (el : l ≡ gather (is r 3) (g .n))
   unfolding firstLive
   live-none k s h = rw (← first-over (liveAt g r) (g .a) k (live-far k s) h, le-ltb (g .a) (g .a) (le-refl (g .a)))
 
+-- ---- the ways before the current one
+
+pub way-before : (g : Network) (w : ℕ) → w ≢ 0 → w - 1 ≡ waysBefore g w
+unfolding waysBefore
+way-before g zero d = absurd (d refl)
+way-before g (suc k) d = omega arith
+
+pub before-few : (g : Network) (w e : ℕ) → g .a ≤ 16 → w ≤ 16 → e ≡ waysBefore g w → e ≤ 16
+unfolding waysBefore
+before-few g zero e ha hw p = omega arith
+before-few g (suc k) e ha hw p = omega arith
+
+module _ (g : Network) (r : Run) (l f e : ℕ) (el : l ≡ gather (is r 3) (g .n)) (ef : f ≡ heldFirm g r) (ee : e ≡ waysBefore g (r .way)) where
+  pub earlier-live : (k : ℕ) → k < e → liveIn l f (g .way) k ≡ true → false ≡ earlierDead g r
+  unfolding earlierDead passedOver
+  earlier-live k h t =
+      sym (off (all (passedOver g r) (waysBefore g (r .way)))
+      (λ a. clash (liveAt g r k) (sym (live-in g r l f el ef k) ∙ t) (not-true (liveAt g r k) (all-e (passedOver g r) (waysBefore g (r .way)) a k (omega arith)))))
+
+  pub earlier-none : (k : ℕ) → So-far (liveIn l f (g .way)) k → e ≤ k → true ≡ earlierDead g r
+  unfolding earlierDead passedOver
+  earlier-none k s h =
+      sym (all-i (passedOver g r) (waysBefore g (r .way)) (λ j b. not-i (liveAt g r j) (sym (live-in g r l f el ef j) ∙ s j (omega arith))))
+
 -- ---- what is needed and what is ready
 
 -- what precedes b is part of p
@@ -80,10 +99,10 @@ module _ (g : Network) (r : Run) where
 
   pub needed-is : (p q s : ℕ) → p ≡ gather (is r 2) (g .n) → q ≡ gather (is r 4) (g .n) → s < 2 ^ 64
       → ((b : ℕ) → member s b ≡ any (picked (bitOr p q) (g .before) b) (g .n)) → s ≡ gather (needed g r) 64
-  unfolding needed standsOn pre before picked
+  unfolding needed supports pre before picked
   needed-is p q s ep eq hs h =
       gather-is (needed g r) 64 s hs
-      (λ b l. h b ∙ any-ext (picked (bitOr p q) (g .before) b) (standsOn g r b) (g .n)
+      (λ b l. h b ∙ any-ext (picked (bitOr p q) (g .before) b) (supports g r b) (g .n)
       (λ v k. ap (λ (t : Bool). t && member (getD (g .before) v 0) b) (busy-at p q v ep eq k)))
 
   pub ready-is : (p s : ℕ) → p ≡ gather (is r 2) (g .n) → s ≡ gather (readyIn p (g .before)) (g .n) → s ≡ gather (ready g r) (g .n)

@@ -78,11 +78,6 @@ pub record Sound (g : Network) (r : Run) : Type 0 where
 pub inside : (g : Network) (r : Run) → Past g r → (b : ℕ) → code r b ≢ 0 → b < g .n
 inside g r past b h = elim (split? b (g .n)) [ inl l ↦ l | inr l ↦ absurd (h (past b l)) ]
 
--- what may be returned is not firm
-pub soft : (g : Network) (b : ℕ) → returnable g b ≡ true → firm g b ≡ false
-unfolding returnable
-soft g b e = not-true (firm g b) (and-r (exposed g b) _ e)
-
 -- ---- live ways
 
 -- no booking of way w is lost, and every held firm one is in it

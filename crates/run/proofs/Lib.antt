@@ -1,3 +1,4 @@
+-- The laws of crate `run`.
 pub mod Facts
 pub mod Cases
 pub mod SoundTest

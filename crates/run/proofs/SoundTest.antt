@@ -1,15 +1,15 @@
 -- A state passes the test exactly where it is sound.
 -- Assumes nothing.
-use mathlib.Core.Path.{_≡_}
+use mathlib.Core.Path.{_≡_, sym, _∙_}
 use mathlib.Core.Logic.{_≢_, inl, inr}
-use mathlib.Core.Bool.{true, not, _&&_, _||_}
+use mathlib.Core.Bool.{Bool, true, false, not, _&&_, _||_}
 use Prim.Native.Nat.{ℕ, _≤_, _<_}
 use native.Mathlib.Omega.{arith}
 use lib.Dec.{leb}
 use lib.ListN.{length, List·getD-eq-default}
 use borrow.Author.Tests.{leb-true, le-leb, not-true}
 use Rattle.bounded.specs.Bounded.{any}
-use Rattle.bounded.proofs.Bools.{same?, split?, and-l, and-r, _&_, or-cases, or-l, or-r, not-i, off, imp-e, imp-i}
+use Rattle.bounded.proofs.Bools.{clash, same?, split?, and-l, and-r, _&_, or-cases, or-l, or-r, not-i, off, imp-e, imp-i}
 use Rattle.bounded.proofs.Tests.{any-i, any-e, all-i, all-e}
 use Rattle.sets.specs.Sets.{some}
 use Rattle.sets.proofs.Facts.{gather-e, gather-i, subset-e, subset-i, some-i}
@@ -70,23 +70,20 @@ module _ (g : Network) (sh : Shape g) (r : Run) (s : Sound g r) where
       is-ready b (omega arith) (λ z. i)
       & some-i (requested g r) (q .0) (coded-i g r 1 (q .0) (inside g r (c .past) (q .0) (omega (arith, q .1))) (q .1))))
 
--- ---- a state that passes is sound
+-- ---- one sentence after the other
 
--- the sentences of the rule, one by one
-record Sentences (g : Network) (r : Run) : Type 0 where
-  codes-t : codesKnown r ≡ true
-  way-t : wayKnown g r ≡ true
-  rest-t : restZero g r ≡ true
-  founded-t : allFounded g r ≡ true
-  lost-t : lostExposed g r ≡ true
-  requested-t : requestedInside g r ≡ true
-  returning-t : returningOutside g r ≡ true
-  quiet-t : quiet g r ≡ true
-  earlier-t : earlierDead g r ≡ true
-  firm-t : firmInside g r ≡ true
-  pending-t : lostPending g r ≡ true
+-- the sentences of the rule, all but the last
+pub record Sentences (g : Network) (r : Run) : Type 0 where
+  pub formed : codesKnown r && (wayKnown g r && restZero g r) ≡ true
+  pub founds : allFounded g r ≡ true
+  pub exposes : lostExposed g r ≡ true
+  pub requests : requestedInside g r ≡ true
+  pub returns : returningOutside g r ≡ true
+  pub quiets : quiet g r ≡ true
+  pub earlier : earlierDead g r ≡ true
+  pub firms : firmInside g r ≡ true
 
-sentences : (g : Network) (r : Run) → sound g r ≡ true → Sentences g r
+pub sentences : (g : Network) (r : Run) → sound g r ≡ true → Sentences g r
 unfolding sound
 sentences g r e =
     let e1 = and-r (codesKnown r) _ e in
@@ -99,20 +96,42 @@ sentences g r e =
     let e8 = and-r (quiet g r) _ e7 in
     let e9 = and-r (earlierDead g r) _ e8 in
     record {
-      codes-t = and-l (codesKnown r) _ e;
-      way-t = and-l (wayKnown g r) _ e1;
-      rest-t = and-l (restZero g r) _ e2;
-      founded-t = and-l (allFounded g r) _ e3;
-      lost-t = and-l (lostExposed g r) _ e4;
-      requested-t = and-l (requestedInside g r) _ e5;
-      returning-t = and-l (returningOutside g r) _ e6;
-      quiet-t = and-l (quiet g r) _ e7;
-      earlier-t = and-l (earlierDead g r) _ e8;
-      firm-t = and-l (firmInside g r) _ e9;
-      pending-t = and-r (firmInside g r) _ e9;
+      formed = and-l (codesKnown r) _ e & (and-l (wayKnown g r) _ e1 & and-l (restZero g r) _ e2);
+      founds = and-l (allFounded g r) _ e3;
+      exposes = and-l (lostExposed g r) _ e4;
+      requests = and-l (requestedInside g r) _ e5;
+      returns = and-l (returningOutside g r) _ e6;
+      quiets = and-l (quiet g r) _ e7;
+      earlier = and-l (earlierDead g r) _ e8;
+      firms = and-l (firmInside g r) _ e9;
     }
 
-module _ (g : Network) (sh : Shape g) (r : Run) (size : length (r .code) ≡ 64) (t : Sentences g r) where
+-- one sentence that fails is enough: x is what its test gave
+pub fails : (g : Network) (r : Run) (a : Bool) → (Sentences g r → a ≡ true) → (x : Bool) → x ≡ a → not x ≡ true → false ≡ sound g r
+fails g r a p x e n = sym (off (sound g r) (λ s. clash a (p (sentences g r s)) (sym e ∙ not-true x n)))
+
+-- the last sentence decides where all others hold
+pub sound-last : (g : Network) (r : Run) → Sentences g r → lostPending g r ≡ sound g r
+unfolding sound
+sound-last g r p =
+    let f = and-r (codesKnown r) _ (p .formed) in
+    rw (and-l (codesKnown r) _ (p .formed), and-l (wayKnown g r) _ f, and-r (wayKnown g r) _ f, p .founds, p .exposes, p .requests, p .returns, p .quiets, p .earlier, p .firms)
+
+-- a way that is known is one of the plan's, whatever the other sentences say
+pub way-few : (g : Network) (r : Run) (x : Bool) → codesKnown r && (wayKnown g r && x) ≡ true → g .a ≤ 16 → r .way ≤ 16
+unfolding wayKnown
+way-few g r x e h = omega (arith, leb-true (r .way) (g .a) (and-l (leb (r .way) (g .a)) _ (and-r (codesKnown r) _ e)))
+
+pub sound-way : (g : Network) (r : Run) → sound g r ≡ true → g .a ≤ 16 → r .way ≤ 16
+unfolding sound
+sound-way g r e h = way-few g r _ e h
+
+-- ---- a state that passes is sound
+
+module _ (g : Network) (sh : Shape g) (r : Run) (size : length (r .code) ≡ 64) (t : Sentences g r) (last : lostPending g r ≡ true) where
+  known : wayKnown g r && restZero g r ≡ true
+  known = and-r (codesKnown r) _ (t .formed)
+
   outside : (b : ℕ) → 64 ≤ b → code r b ≡ 0
   unfolding code
   outside b h = List·getD-eq-default (r .code) 0 (omega arith)
@@ -120,13 +139,13 @@ module _ (g : Network) (sh : Shape g) (r : Run) (size : length (r .code) ≡ 64)
   past-f : (b : ℕ) → g .n ≤ b → code r b ≡ 0
   unfolding restZero zeroPast
   past-f b h = elim (split? b 64) [
-    | inl l ↦ is-e r 0 b (imp-e (leb (g .n) b) _ (all-e (zeroPast g r) 64 (t .rest-t) b l) (le-leb _ _ h))
+    | inl l ↦ is-e r 0 b (imp-e (leb (g .n) b) _ (all-e (zeroPast g r) 64 (and-r (wayKnown g r) _ known) b l) (le-leb _ _ h))
     | inr l ↦ outside b l
   ]
 
   codes-f : (b : ℕ) → code r b ≤ 4
   unfolding codesKnown codeKnown
-  codes-f b = elim (split? b 64) [ inl l ↦ leb-true _ _ (all-e (codeKnown r) 64 (t .codes-t) b l) | inr l ↦ omega (arith, outside b l) ]
+  codes-f b = elim (split? b 64) [ inl l ↦ leb-true _ _ (all-e (codeKnown r) 64 (and-l (codesKnown r) _ (t .formed)) b l) | inr l ↦ omega (arith, outside b l) ]
 
   in-n : (b : ℕ) → code r b ≢ 0 → b < g .n
   in-n b n = inside g r past-f b n
@@ -149,19 +168,19 @@ module _ (g : Network) (sh : Shape g) (r : Run) (size : length (r .code) ≡ 64)
 
   pending-f : (b : ℕ) → code r b ≡ 3 → inWay g (r .way) b ≡ true → ready g r b && some (requested g r) ≡ true
   unfolding lostPending pending
-  pending-f b l i = imp-e (is r 3 b && inWay g (r .way) b) _ (all-e (pending g r) (g .n) (t .pending-t) b (in-n b (omega arith))) (is-i r 3 b l & i)
+  pending-f b l i = imp-e (is r 3 b && inWay g (r .way) b) _ (all-e (pending g r) (g .n) last b (in-n b (omega arith))) (is-i r 3 b l & i)
 
   preds-f : (u v : ℕ) → code r v ≢ 0 → (code r v ≡ 3 → inWay g (r .way) v ≡ true) → pre g u v ≡ true → code r u ≡ 2
   unfolding allFounded founded
   preds-f u v n i p = elim (same? (code r v) 3) [
     | inl l ↦ ready-e v u (and-l (ready g r v) _ (pending-f v l (i l))) p
-    | inr m ↦ ready-e v u (imp-e (is r 1 v || (is r 2 v || is r 4 v)) _ (all-e (founded g r) (g .n) (t .founded-t) v (in-n v n)) (active-i v n m)) p
+    | inr m ↦ ready-e v u (imp-e (is r 1 v || (is r 2 v || is r 4 v)) _ (all-e (founded g r) (g .n) (t .founds) v (in-n v n)) (active-i v n m)) p
   ]
 
   quiet-f : (b q : ℕ) → leaving g r b ≡ true → b < g .n → code r q ≢ 1
   unfolding quiet
   quiet-f b q e l m =
-      none-coded g r 1 (not-true _ (imp-e (any (leaving g r) (g .n)) _ (t .quiet-t) (any-i (leaving g r) (g .n) b l e))) q (in-n q (omega arith)) m
+      none-coded g r 1 (not-true _ (imp-e (any (leaving g r) (g .n)) _ (t .quiets) (any-i (leaving g r) (g .n) b l e))) q (in-n q (omega arith)) m
 
   sentences-sound : Sound g r
   unfolding wayKnown lostExposed requestedInside returningOutside mayReturn leaving earlierDead passedOver liveAt firmInside heldFirm heldFirmAt inWay exposed
@@ -170,23 +189,23 @@ module _ (g : Network) (sh : Shape g) (r : Run) (size : length (r .code) ≡ 64)
         core = record {
           size = size;
           codes = codes-f;
-          way = leb-true _ _ (t .way-t);
+          way = leb-true _ _ (and-l (wayKnown g r) _ known);
           past = past-f;
           preds = preds-f;
-          shown = λ b m. let h = in-n b (omega arith) in subset-e (lost g r) (g .exposed) b (t .lost-t) (low b h) (coded-i g r 3 b h m);
-          asked = λ b m. let h = in-n b (omega arith) in subset-e (requested g r) (wayOf g (r .way)) b (t .requested-t) (low b h) (coded-i g r 1 b h m);
+          shown = λ b m. let h = in-n b (omega arith) in subset-e (lost g r) (g .exposed) b (t .exposes) (low b h) (coded-i g r 3 b h m);
+          asked = λ b m. let h = in-n b (omega arith) in subset-e (requested g r) (wayOf g (r .way)) b (t .requests) (low b h) (coded-i g r 1 b h m);
           going = λ b m.
-              let k = imp-e (is r 4 b) _ (all-e (mayReturn g r) (g .n) (t .returning-t) b (in-n b (omega arith))) (is-i r 4 b m) in
+              let k = imp-e (is r 4 b) _ (all-e (mayReturn g r) (g .n) (t .returns) b (in-n b (omega arith))) (is-i r 4 b m) in
               (and-l (returnable g b) _ k, not-true _ (and-r (returnable g b) _ k));
           quiet = λ b q m o. quiet-f b q (or-l (is r 2 b && not (inWay g (r .way) b)) _ (is-i r 2 b m & not-i _ o)) (in-n b (omega arith));
           still = λ b q m. quiet-f b q (or-r (is r 2 b && not (inWay g (r .way) b)) _ (is-i r 4 b m)) (in-n b (omega arith));
-          earlier = λ k h. not-true _ (all-e (passedOver g r) (waysBefore g (r .way)) (t .earlier-t) k h);
+          earlier = λ k h. not-true _ (all-e (passedOver g r) (waysBefore g (r .way)) (t .earlier) k h);
           firm-in = λ b m z.
               let h = in-n b (omega arith) in
-              subset-e (heldFirm g r) (wayOf g (r .way)) b (t .firm-t) (low b h) (gather-i (heldFirmAt g r) (g .n) b h (is-i r 2 b m & z));
+              subset-e (heldFirm g r) (wayOf g (r .way)) b (t .firms) (low b h) (gather-i (heldFirmAt g r) (g .n) b h (is-i r 2 b m & z));
         };
         waits = λ b l i. let q = some-coded g r 1 (and-r (ready g r b) _ (pending-f b l i)) in (q .0, q .2);
       }
 
 pub sound-e : (g : Network) → Shape g → (r : Run) → length (r .code) ≡ 64 → sound g r ≡ true → Sound g r
-sound-e g sh r size e = sentences-sound g sh r size (sentences g r e)
+sound-e g sh r size e = let t = sentences g r e in sentences-sound g sh r size t (sound-last g r t ∙ e)

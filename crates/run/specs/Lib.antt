@@ -1,3 +1,4 @@
+-- The definitions of crate `run`.
 pub mod State
 pub mod Orders
 pub mod Replies

@@ -14,12 +14,12 @@ use Rattle.run.specs.declared.Order.{Order}
 use Rattle.run.specs.declared.Order.the-variants.{Request, Return, Wait, Flown, Off}
 
 -- b precedes v, which is held or returning
-unfoldable pub standsOn : Network → Run → ℕ → ℕ → Bool
-standsOn g r b v = (is r 2 v || is r 4 v) && pre g b v
+unfoldable pub supports : Network → Run → ℕ → ℕ → Bool
+supports g r b v = (is r 2 v || is r 4 v) && pre g b v
 
 -- b precedes some held or returning booking
 unfoldable pub needed : Network → Run → ℕ → Bool
-needed g r b = any (standsOn g r b) (g .n)
+needed g r b = any (supports g r b) (g .n)
 
 -- rule 2: b is held, outside the current way, and precedes no held or returning booking
 unfoldable pub toReturn : Network → Run → ℕ → Bool

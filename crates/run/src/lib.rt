@@ -8,7 +8,7 @@ ghost use lib.ListN.{length};
 ghost use Rattle.bounded.specs.Bounded.{first};
 ghost use Rattle.sets.specs.Sets.{member, gather, subsetOf, disjointFrom};
 ghost use Rattle.verdict.specs.Network.{wayOf};
-ghost use Rattle.run.specs.State.{is, put, start, lostIn, heldFirm, live, firstLive};
+ghost use Rattle.run.specs.State.{is, put, start, lostIn, heldFirm, firstLive};
 ghost use Rattle.run.specs.Orders.{needed, toReturn, ready, toRequest, still, next};
 ghost use Rattle.run.specs.Replies.{settle, afterNo, fits, misfits, reply};
 ghost use Rattle.run.specs.Bytes.{bytesOf, runOf};
@@ -101,7 +101,7 @@ impl Run {
     }
 
     // Whether way w has a lost booking.
-    pub fn lost_in(self, g: Network, w: usize) -> bool
+    fn lost_in(self, g: Network, w: usize) -> bool
         requires { ⌜ (g .n ≤ 64) × (w ≤ 16) ⌝ }
         ensures { λ t. ⌜ t ≡ lostIn g self w ⌝ }
     {
@@ -109,7 +109,8 @@ impl Run {
     }
 }
 
-// Whether a way is live, from its bookings, the lost ones and the held firm ones.
+// Whether a way is live, from its bookings, the lost ones and the held firm ones: it is not the case that it has a lost one, and it
+// has every firm one.
 pub fn is_live(way: u64, lost: u64, firm: u64) -> bool
     ensures { λ t. ⌜ t ≡ (not (not (disjointFrom way lost)) && subsetOf firm way) ⌝ }
 {
@@ -121,7 +122,7 @@ pub fn is_live(way: u64, lost: u64, firm: u64) -> bool
 
 impl Run {
     // The first live way, or 0 if there is none.
-    pub fn first_live(self, g: Network) -> u8
+    fn first_live(self, g: Network) -> u8
         requires { ⌜ (g .n ≤ 64) × (g .a ≤ 16) ⌝ }
         ensures { λ w. ⌜ w ≡ firstLive g self ⌝ }
     {
@@ -238,7 +239,8 @@ impl Run {
         self.still(Order::Flown(self.way))
     }
 
-    // What follows a Y or an N: where nothing is requested and the current way has a lost booking, the first live way becomes current.
+    // What follows a Y or an N: where nothing is requested and the current way has a lost booking, the first live way becomes current,
+    // or 0 if there is none.
     fn settle(self, g: Network) -> Run
         requires { ⌜ (g .n ≤ 64) × (g .a ≤ 16) × (self .way ≤ 16) ⌝ }
         ensures { λ r. ⌜ r ≡ settle g self ⌝ }
@@ -287,23 +289,23 @@ impl Run {
         let code = self.code;
         let c = code[b];
         if c == 1 {
-            if letter == 89 {
+            if letter == b'Y' {
                 let held = self.put(b, 2);
                 let after = held.settle(g);
                 return after.fits();
             }
-            if letter == 78 {
+            if letter == b'N' {
                 let refused = self.put(b, after_no(g, b));
                 let after = refused.settle(g);
                 return after.fits();
             }
         }
         if c == 4 {
-            if letter == 71 {
+            if letter == b'G' {
                 let after = self.put(b, 0);
                 return after.fits();
             }
-            if letter == 75 {
+            if letter == b'K' {
                 let after = self.put(b, 2);
                 return after.fits();
             }

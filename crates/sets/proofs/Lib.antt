@@ -1,3 +1,4 @@
+-- The laws of crate `sets`.
 pub mod Members
 pub mod Gather
 pub mod Facts

@@ -8,8 +8,6 @@ use Prim.Native.Nat.{ℕ, zero, suc, _-_, _^_, _≤_, _<_, _+_}
 use native.Mathlib.Nat.{lt-of-le-of-lt, pow-suc}
 use native.Mathlib.Omega.{arith}
 use native.Mathlib.Numerals.{add-one}
-use borrow.Author.Tests.{lt-ltb, le-ltb}
-use lib.Dec.{ltb}
 use lib.Pow.{pow-pos}
 use lib.Bits.{bitAnd, bitOr, and-le-l, or-lt}
 use lib.ListN.{getD}
@@ -21,13 +19,6 @@ use Rattle.sets.specs.Sets.{member, gather, only, without, always, allBe
 use Rattle.sets.proofs.Members.{member-and, member-or, same-set, fits-more, member-zero, member-where}
 use Rattle.sets.proofs.Gather.{gather-lt, gather-is, member-gather, member-gather-past}
 use Rattle.sets.proofs.Facts.{gather-e, gather-i, subset-e, subset-i, some-i, some-e}
-
--- a member of a gathered set, wherever it stands
-pub member-gathered : (f : ℕ → Bool) (n i : ℕ) → member (gather f n) i ≡ ltb i n && f i
-member-gathered f n i = elim (split? i n) [
-  | inl h ↦ rw (lt-ltb i n h) (member-gather f n i h)
-  | inr h ↦ rw (le-ltb i n h) (member-gather-past f n i h)
-]
 
 pub gather-fits : (f : ℕ → Bool) (n : ℕ) → n ≤ 64 → gather f n < 2 ^ 64
 gather-fits f n h = fits-more (gather f n) n 64 (gather-lt f n) h

@@ -1,1 +1,2 @@
+-- The definitions of crate `sets`.
 pub mod Sets

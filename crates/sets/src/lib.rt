@@ -3,7 +3,7 @@
 ghost use mathlib.Core.Path.{_≡_};
 ghost use Prim.Native.Nat.{_≤_, _<_};
 ghost use Rattle.bounded.specs.Bounded.{first, table};
-ghost use Rattle.sets.specs.Sets.{alone, member, allBelow, insert, without, subsetOf, disjointFrom, sizeOf};
+ghost use Rattle.sets.specs.Sets.{alone, member, allBelow, without, subsetOf, disjointFrom, sizeOf};
 
 const BIT: [u64; 64] = [
     1,
@@ -105,14 +105,6 @@ pub fn has(s: u64, i: usize) -> bool
     ensures { λ r. ⌜ r ≡ member s i ⌝ }
 {
     (s >> i) % 2 == 1
-}
-
-// The set s with index i put in.
-pub fn with(s: u64, i: usize) -> u64
-    requires { ⌜ i < 64 ⌝ }
-    ensures { λ r. ⌜ r ≡ insert s i ⌝ }
-{
-    s | bit(i)
 }
 
 // The members of a that are not in b.

@@ -15,7 +15,7 @@ pub struct Sheet {
 }
 
 // A refused sheet.
-pub fn refused(j: Judged) -> Sheet
+fn refused(j: Judged) -> Sheet
     ensures { λ r. ⌜ r ≡ refusedOf j ⌝ }
 {
     let plan = Plan {
@@ -41,7 +41,7 @@ fn fine(plan: Plan) -> Sheet
 }
 
 // Reads the lines after the head of a sheet with n bookings, m links and a ways.
-pub fn read_body(s: &[u8], n: usize, m: usize, a: usize) -> Sheet
+fn read_body(s: &[u8], n: usize, m: usize, a: usize) -> Sheet
     requires { ⌜ (n ≤ mostBookings) × (m ≤ mostLinks) × (a ≤ mostWays) ⌝ }
     ensures { λ r. ⌜ r ≡ bodyOf n m a (now (s .entry)) ⌝ }
 {

@@ -1,1 +1,2 @@
+-- The laws of crate `soundness`.
 pub mod Tests

@@ -1,12 +1,15 @@
 -- What the check finds out about a network, as facts without bounds.
 -- Assumes nothing.
-use mathlib.Core.Path.{_≡_}
+use mathlib.Core.Path.{_≡_, refl, ap}
 use mathlib.Core.Logic.{_≢_, _⊎_}
 use mathlib.Core.Bool.{true, false}
-use Prim.Native.Nat.{ℕ, _≤_, _<_}
-use Rattle.bounded.proofs.Bools.{clash}
+use Prim.Native.Nat.{ℕ, zero, suc, _-_, _≤_, _<_}
+use native.Mathlib.Omega.{arith}
+use lib.ListN.{getD}
+use borrow.Author.Tests.{not-true}
+use Rattle.bounded.proofs.Bools.{clash, and-r}
 use Rattle.sets.proofs.Members.{member-zero}
-use Rattle.verdict.specs.Network.{wayOf, inWay, pre, firm, exposed}
+use Rattle.verdict.specs.Network.{wayOf, inWay, pre, firm, exposed, returnable}
 use Rattle.verdict.specs.declared.Network.{Network}
 
 -- s is a firm booking of way w other than x that x does not precede
@@ -48,3 +51,14 @@ no-way g b = member-zero b
 
 pub some-way : (g : Network) (w b : ℕ) → inWay g w b ≡ true → w ≢ 0
 some-way g w b e z = clash (inWay g 0 b) (rw z at e) (no-way g b)
+
+-- way w is entry w - 1
+pub way-entry : (g : Network) (w : ℕ) → w ≢ 0 → getD (g .way) (w - 1) 0 ≡ wayOf g w
+unfolding wayOf
+way-entry g zero d = absurd (d refl)
+way-entry g (suc k) d = ap (λ (i : ℕ). getD (g .way) i 0) (omega arith)
+
+-- what may be returned is not firm
+pub soft : (g : Network) (b : ℕ) → returnable g b ≡ true → firm g b ≡ false
+unfolding returnable
+soft g b e = not-true (firm g b) (and-r (exposed g b) _ e)

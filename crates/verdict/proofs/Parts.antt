@@ -5,12 +5,12 @@ use mathlib.Core.Logic.{inl, inr}
 use mathlib.Core.Bool.{Bool, true, false, not, _&&_, _||_}
 use mathlib.Core.List.{List}
 use Prim.Native.Nat.{ℕ, suc, _+_, _^_, _≤_, _<_, suc-le-suc}
-use borrow.Author.Tests.{eq-eqb, ne-eqb, lt-ltb, le-ltb}
+use borrow.Author.Tests.{lt-ltb, le-ltb}
 use lib.Dec.{eqb, ltb}
 use lib.Bits.{bitAnd, bitOr, or-lt}
 use lib.ListN.{getD}
 use Rattle.bounded.specs.Bounded.{imp, any, all}
-use Rattle.bounded.proofs.Bools.{which, same?, and-no-l, and-go, and-true, and-swap, or-swap}
+use Rattle.bounded.proofs.Bools.{which, and-no-l, and-go, and-true, and-swap, or-swap, neither}
 use Rattle.bounded.proofs.Tests.{any-suc, any-ext, all-suc, all-ext}
 use Rattle.sets.specs.Sets.{member, gather, kept, subsetOf, always, allBelow}
 use Rattle.sets.proofs.Members.{member-and, member-or, member-power}
@@ -58,13 +58,6 @@ apart-turn p old new s n up b eu eb t inv x h =
     ])
 
 -- ---- S and the refuges of a network
-
--- neither of two, as the check and the code say it: the other test fails, and i is not j
-neither : (i j : ℕ) (b : Bool) → not (b || eqb j i) ≡ not (eqb i j) && not b
-neither i j b = ap not (or-swap b (eqb j i)) ∙ elim (same? i j) [
-  | inl p ↦ rw (eq-eqb i j p, eq-eqb j i (sym p))
-  | inr d ↦ rw (ne-eqb i j d, ne-eqb j i (λ e. d (sym e)))
-]
 
 -- s itself and all that precede it, in members
 reach-member : (p : List ℕ) (s y : ℕ) → member (reachAt p s) y ≡ member (getD p s 0) y || eqb y s

@@ -1,3 +1,4 @@
+-- The definitions of crate `verdict`.
 pub mod Network
 pub mod FromPlan
 pub mod Parts

@@ -1,6 +1,8 @@
+-- The laws of crate `ways`.
 pub mod ReadLaws
 pub mod TextLaws
 pub mod Members
 pub mod WayRoundTrip
 pub mod WaysRoundTrip
 pub mod WayNumbers
+pub mod Places

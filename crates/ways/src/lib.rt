@@ -3,8 +3,7 @@ use decimal::Field;
 use plan::Judged;
 ghost use mathlib.Core.Path.{_≡_};
 ghost use Prim.Native.Nat.{_+_, _*_, _≤_, _<_};
-ghost use lib.Dec.{eqb};
-ghost use lib.ListN.{length, getD, drop};
+ghost use lib.ListN.{length, drop};
 ghost use lib.Seq.{sets};
 ghost use Rattle.bounded.specs.Bounded.{one, all};
 ghost use Rattle.sets.specs.Sets.{member, sizeOf};
@@ -37,7 +36,7 @@ pub struct Ways {
 }
 
 // The count at the front of a way line, after its letter.
-pub fn read_count(front: &[u8]) -> Field
+fn read_count(front: &[u8]) -> Field
     ensures { λ r. ⌜ r ≡ countOf (now (front .entry)) ⌝ }
 {
     if front.len() == 0 {
@@ -50,7 +49,7 @@ pub fn read_count(front: &[u8]) -> Field
 }
 
 // Whether the field at at is a number.
-pub fn is_number(s: &[u8], at: usize) -> bool
+fn is_number(s: &[u8], at: usize) -> bool
     ensures { λ r. ⌜ r ≡ isNumber (fieldAt 4 at (now (s .entry))) ⌝ }
 {
     match decimal::field_at(s, at, 4) {
@@ -60,7 +59,7 @@ pub fn is_number(s: &[u8], at: usize) -> bool
 }
 
 // Whether the k fields from at on are numbers.
-pub fn are_numbers(s: &[u8], at: usize, k: usize) -> bool
+fn are_numbers(s: &[u8], at: usize, k: usize) -> bool
     requires { ⌜ (k ≤ mostBookings) × (at < 65536) ⌝ }
     ensures { λ r. ⌜ r ≡ all (numberThere (drop at (now (s .entry)))) k ⌝ }
 {
@@ -75,7 +74,7 @@ pub fn are_numbers(s: &[u8], at: usize, k: usize) -> bool
 }
 
 // What a line is that has a number out of sequence, with the k fields from at on after it.
-pub fn broken(s: &[u8], at: usize, k: usize) -> Gathered
+fn broken(s: &[u8], at: usize, k: usize) -> Gathered
     requires { ⌜ (k ≤ mostBookings) × (at < 65536) ⌝ }
     ensures { λ r. ⌜ r ≡ brokenOf k (drop at (now (s .entry))) ⌝ }
 {
@@ -86,7 +85,7 @@ pub fn broken(s: &[u8], at: usize, k: usize) -> Gathered
 }
 
 // The set of the k numbers from at on, which are to rise strictly and to be at most n.
-pub fn gather(s: &[u8], at: usize, k: usize, n: usize) -> Gathered
+fn gather(s: &[u8], at: usize, k: usize, n: usize) -> Gathered
     requires { ⌜ (k ≤ mostBookings) × (n ≤ mostBookings) × (at < 32768) ⌝ }
     ensures { λ r. ⌜ r ≡ gatherOf n 0 0 k (drop at (now (s .entry))) ⌝ }
 {
@@ -109,7 +108,7 @@ pub fn gather(s: &[u8], at: usize, k: usize, n: usize) -> Gathered
 }
 
 // Whether a line feed stands at at.
-pub fn is_fed(s: &[u8], at: usize) -> bool
+fn is_fed(s: &[u8], at: usize) -> bool
     ensures { λ r. ⌜ r ≡ fedAt at (now (s .entry)) ⌝ }
 {
     if at < s.len() {
@@ -176,7 +175,7 @@ pub fn read_ways(s: &[u8], at: usize, n: usize, a: usize, first: usize) -> Ways
 }
 
 // Writes the number of booking b where it is in s, and gives the place after it.
-pub fn write_member(buf: &mut [u8], at: usize, s: u64, b: usize) -> usize
+fn write_member(buf: &mut [u8], at: usize, s: u64, b: usize) -> usize
     requires { ⌜ (b < 64) × (at + 4 * one (member s b) ≤ length (now buf)) ⌝ }
     ensures next { λ r. ⌜ r ≡ at + 4 * one (member s b) ⌝ }
     ensures text { λ _. ⌜ now (buf .exit) ≡ sets (now (buf .entry)) at (memberText s b) ⌝ }
@@ -189,7 +188,7 @@ pub fn write_member(buf: &mut [u8], at: usize, s: u64, b: usize) -> usize
 }
 
 // Writes the numbers of the bookings in s, and gives the place after them.
-pub fn write_members(buf: &mut [u8], at: usize, s: u64) -> usize
+fn write_members(buf: &mut [u8], at: usize, s: u64) -> usize
     requires { ⌜ at + 4 * sizeOf s ≤ length (now buf) ⌝ }
     ensures next { λ r. ⌜ r ≡ at + 4 * sizeOf s ⌝ }
     ensures text { λ _. ⌜ now (buf .exit) ≡ sets (now (buf .entry)) at (numbersText (members s)) ⌝ }

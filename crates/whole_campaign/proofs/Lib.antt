@@ -1,2 +1,3 @@
+-- The laws of crate `whole_campaign`.
 pub mod Whole
 pub mod Playing

@@ -1,32 +1,22 @@
 -- The laws by which a list of calls is played: bytes in, bytes out, and one turn of the loop.
 -- Assumes nothing.
 use mathlib.Core.Path.{_≡_, refl, sym, ap, _∙_}
-use mathlib.Core.Logic.{inl, inr}
-use mathlib.Core.Bool.{true, false}
 use mathlib.Core.List.{List, [], _∷_, _++_, append-assoc}
 use Prim.Native.Nat.{ℕ, suc, _+_, _-_, _*_, _/_, _%_, _≤_, _<_}
 use native.Mathlib.Omega.{arith}
 use borrow.Author.Tests.{eq-eqb, ne-eqb, le-leb, lt-leb}
 use lib.ListN.{length, getD, length-append}
 use lib.Seq.{sets}
-use Rattle.bounded.proofs.Bools.{which, clash}
 use Rattle.decimal.proofs.Stores.{sets-append}
-use Rattle.plan.specs.Judging.{isFine, judgedPlace}
-use Rattle.plan.specs.declared.Judged.{Judged}
 use Rattle.plan.specs.declared.Judged.the-variants as J
-use Rattle.sheet.specs.Sheet.{sheetOf}
-use Rattle.verdict.specs.declared.Verdict.{Verdict}
-use Rattle.verdict.specs.declared.Verdict.the-variants.{Pass, Circular, Unclosed, Unused, Repeated, Stranding}
-use Rattle.verdict.specs.Check.{check, verdictNumber, verdictPlace}
 use Rattle.run.specs.State.{start}
 use Rattle.run.specs.Bytes.{bytesOf}
-use Rattle.guarantee.specs.Answers.{pack, checkBits}
+use Rattle.guarantee.specs.Answers.{pack}
 use Rattle.guarantee.specs.Machine.{Asked, nextOrder, replied}
-use Rattle.campaign.specs.Calls.{networkIn, passes, sheetPasses, judgedBits, checkCall, startCall, startLeaves, askedCall, askedLeaves}
+use Rattle.campaign.specs.Calls.{startCall, askedCall, askedLeaves}
 use Rattle.whole_campaign.specs.Lists.{answersOn, statesOn}
 use Rattle.whole_campaign.specs.Play.{wordAt, wordText, askAt, asksFrom, asksIn, recorded, recordOf, roomy, playCall, playLeaves}
-use Rattle.campaign.proofs.Places.{sheet-small, verdict-small}
-use Rattle.campaign.proofs.Exits.{fine-bounds}
+use Rattle.campaign.proofs.FirstAnswer.{low-refused, high-passes, accepted-is}
 
 -- ---- a call by its bytes
 
@@ -96,66 +86,18 @@ module _ (s calls : List ℕ) where
   unfolding recordOf answersOn recorded
   play-end whole d bs n i h inv = rw (no-asks n i h) at inv
 
--- ---- the first answer tells whether the sheet passes
-
-judged-low : (j : Judged) → judgedPlace j < 65536 → judgedBits j < 16777216
-unfolding judgedBits pack
-judged-low J.Fine h = omega arith
-judged-low (J.Form l) h = omega arith
-judged-low (J.Count l) h = omega arith
-judged-low (J.Sequence l) h = omega arith
-
-verdict-low : (v : Verdict) → verdictPlace v < 65536 → passes v ≡ false → checkBits v < 16777216
-unfolding checkBits pack passes verdictNumber verdictPlace
-verdict-low Pass h e = clash true refl e
-verdict-low (Circular b) h e = omega arith
-verdict-low (Unclosed w) h e = omega arith
-verdict-low (Unused b) h e = omega arith
-verdict-low (Repeated w) h e = omega arith
-verdict-low (Stranding w b) h e = omega arith
-
-refused-low : (s : List ℕ) → sheetPasses s ≡ false → checkCall s < 16777216
-unfolding sheetPasses checkCall
-refused-low s e = elim (which (isFine (sheetOf s .judged))) [
-  | inl f ↦
-      (let b = fine-bounds s f in
-      let n : passes (check (networkIn s)) ≡ false = rw f at e in
-      rw f (verdict-low (check (networkIn s)) (verdict-small (networkIn s) (b .0) (b .1)) n))
-  | inr f ↦ rw f (judged-low (sheetOf s .judged) (sheet-small s))
-]
+-- ---- what the first answer tells
 
 module _ (s bs : List ℕ) (l : length bs ≡ 65) (x : ℕ) (e : x ≡ startCall s bs) where
-  pub low-refused : x < 16777216 → sheetPasses s ≡ false
-  unfolding startCall pack
-  low-refused h = elim (which (sheetPasses s)) [
-    | inl p ↦ absurd (let z : x ≡ 100663296 = rw (p, eq-eqb (length bs) 65 l) at e in omega arith)
-    | inr p ↦ p
-  ]
-
-  pub high-passes : 16777216 ≤ x → sheetPasses s ≡ true
-  unfolding startCall
-  high-passes h = elim (which (sheetPasses s)) [
-    | inl p ↦ p
-    | inr p ↦ absurd (let z : x ≡ checkCall s = rw p at e in omega (arith, refused-low s p))
-  ]
-
   pub refused-answer : x < 16777216 → (calls : List ℕ) (d : List ℕ) → (x ≡ playCall s calls (length d)) × (d ≡ playLeaves s calls d)
   unfolding startCall playCall playLeaves
-  refused-answer h calls d = let p = low-refused h in (rw p (rw p at e), rw p refl)
+  refused-answer h calls d = let p = low-refused s bs l x e h in (rw p (rw p at e), rw p refl)
 
   module _ (h : 16777216 ≤ x) (calls d : List ℕ) where
     pub no-room : length d / 69 < length calls / 6 → (y : ℕ) → y ≡ pack 0 10 0 → (y ≡ playCall s calls (length d)) × (d ≡ playLeaves s calls d)
     unfolding playCall playLeaves roomy
-    no-room r y q = let p = high-passes h in (rw (p, lt-leb (length calls / 6) (length d / 69) r) q, rw (p, lt-leb (length calls / 6) (length d / 69) r) refl)
-
-    pub accepted-is : x ≡ pack 6 0 0
-    unfolding startCall
-    accepted-is = rw (high-passes h, eq-eqb (length bs) 65 l) at e
-
-    pub started-is : startLeaves s bs ≡ bytesOf start
-    unfolding startLeaves
-    started-is = rw (high-passes h, eq-eqb (length bs) 65 l) refl
+    no-room r y q = let p = high-passes s bs l x e h in (rw (p, lt-leb (length calls / 6) (length d / 69) r) q, rw (p, lt-leb (length calls / 6) (length d / 69) r) refl)
 
     pub played : length calls / 6 ≤ length d / 69 → (f : List ℕ) → f ≡ sets d 0 (recordOf s (bytesOf start) (asksIn calls)) → (x ≡ playCall s calls (length d)) × (f ≡ playLeaves s calls d)
     unfolding playCall playLeaves roomy
-    played r f q = let p = high-passes h in (rw (p, le-leb (length calls / 6) (length d / 69) r) accepted-is, rw (p, le-leb (length calls / 6) (length d / 69) r) q)
+    played r f q = let p = high-passes s bs l x e h in (rw (p, le-leb (length calls / 6) (length d / 69) r) (accepted-is s bs l x e h), rw (p, le-leb (length calls / 6) (length d / 69) r) q)

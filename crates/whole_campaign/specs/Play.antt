@@ -2,7 +2,7 @@
 -- A call has six bytes: 0 for next order, any other byte for a reply; the reply's letter; its booking as 32 bits, high byte first.
 -- An answer has 69: its 32 bits, high byte first, and the state's 65 bytes after the call.
 -- Assumes nothing.
-use mathlib.Core.Bool.{Bool, true, false, _&&_, cond}
+use mathlib.Core.Bool.{Bool, _&&_, cond}
 use mathlib.Core.List.{List, [], _∷_, _++_}
 use Prim.Native.Nat.{ℕ, zero, suc, _+_, _*_, _/_, _%_}
 use lib.Dec.{eqb, leb}

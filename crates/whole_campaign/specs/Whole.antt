@@ -9,7 +9,6 @@ use Prim.Native.Nat.{ℕ}
 use lib.ListN.{drop}
 use Rattle.ways.specs.Ways.{countsListed}
 use Rattle.sheet.specs.Sheet.{waysPlace, sheetOf}
-use Rattle.sheet.specs.declared.Sheet.{Sheet}
 use Rattle.run.specs.State.{start}
 use Rattle.run.specs.Bytes.{bytesOf}
 use Rattle.guarantee.specs.Machine.{Asked, nextOrder, machineAnswers, machineStates}

@@ -1,2 +1,3 @@
+-- The definitions of crate `writer`.
 pub mod Written
 pub mod ReadBack

@@ -18,7 +18,7 @@ pub enum Written {
 }
 
 // How many bytes the sheet of p has.
-pub fn sheet_size(p: Plan) -> usize
+fn sheet_size(p: Plan) -> usize
     requires { ⌜ (p .n ≤ mostBookings) × (p .m ≤ mostLinks) × (p .a ≤ mostWays) ⌝ }
     ensures { λ r. ⌜ r ≡ sheetLength p ⌝ }
 {
@@ -27,7 +27,7 @@ pub fn sheet_size(p: Plan) -> usize
 }
 
 // Writes the lines of p at the front of a buffer that has room for them.
-pub fn write_lines(buf: &mut [u8], p: Plan)
+fn write_lines(buf: &mut [u8], p: Plan)
     requires { ⌜ (p .n ≤ mostBookings) × (p .m ≤ mostLinks) × (p .a ≤ mostWays) × (sheetLength p ≤ length (now buf)) ⌝ }
     ensures { λ _. ⌜ now (buf .exit) ≡ sets (now (buf .entry)) 0 (sheetText p) ⌝ }
 {
@@ -42,7 +42,7 @@ pub fn write_lines(buf: &mut [u8], p: Plan)
 }
 
 // Writes the sheet of a record that is fine, if it fits.
-pub fn write_fine(buf: &mut [u8], p: Plan) -> Written
+fn write_fine(buf: &mut [u8], p: Plan) -> Written
     requires { ⌜ (p .n ≤ mostBookings) × (p .m ≤ mostLinks) × (p .a ≤ mostWays) ⌝ }
     ensures answer { λ r. ⌜ r ≡ fineAnswer p (length (now (buf .entry))) ⌝ }
     ensures left { λ _. ⌜ now (buf .exit) ≡ leftBy (fineAnswer p (length (now (buf .entry)))) p (now (buf .entry)) ⌝ }

@@ -7,7 +7,9 @@ use Rattle.run.specs.Bytes.{bytesOf}
 use Rattle.guarantee.specs.Answers.{orderBits}
 use Rattle.guarantee.specs.Machine.{nextOrder, answer, after}
 use Rattle.campaign.proofs.Places.{order-small}
-use Rattle.campaign.proofs.Exits.{bounded, way-small, asked-refused, asked-short, asked-unsound, asked-done}
+use Rattle.bounded.proofs.Bools.{went}
+use Rattle.run.proofs.SoundTest.{sound-way}
+use Rattle.campaign.proofs.Exits.{bounded, asked-refused, asked-short, asked-unsound, asked-done}
 use borrow.Author.Needs.{needs}
 use Rattle.campaign.proofs.campaign_next_order.Statement.{statement}
 use Rattle.campaign.proofs.campaign_next_order.Tie as tie
@@ -25,10 +27,13 @@ returns-3 : tie.Need-returns-3
 returns-3 c = asked-unsound _ _ (c .before .before .before .before .before .before .before .before .before .judge-sheet .ensures) (c .before .before .before .before .before .before .before .if1 .left) _ (nextOrder) (c .before .before .before .before .before .before .if2 .left) _ (c .before .before .before .load .ensures) _ (c .before .before .is-sound .ensures) (c .before .if3 .taken) _ (c .pack2 .ensures)
 
 next-order-requires : tie.Need-next-order-requires
-next-order-requires c κs = (bounded _ _ (c .before .before .before .before .before .before .before .before .judge-sheet .ensures) (c .before .before .before .before .before .before .if1 .left) .0, way-small _ _ (c .before .before .before .before .before .before .before .before .judge-sheet .ensures) (c .before .before .before .before .before .before .if1 .left) _ (nextOrder) (c .before .before .before .before .before .if2 .left) _ (c .before .before .load .ensures) _ (c .before .is-sound .ensures) (c .if3 .left))
+next-order-requires c κs = let b = bounded _ _ (c .before .before .before .before .before .before .before .before .judge-sheet .ensures) (c .before .before .before .before .before .before .if1 .left) in (b .0, sound-way _ _ (went (c .before .is-sound .ensures) (c .if3 .left)) (b .1))
 
 order-bits-requires : tie.Need-order-bits-requires
-order-bits-requires c κs = rw (c .before .before .before .before .before .next-order .ensures) (order-small _ _ (bounded _ _ (c .before .before .before .before .before .before .before .before .before .before .before .before .before .before .judge-sheet .ensures) (c .before .before .before .before .before .before .before .before .before .before .before .before .if1 .left) .0) (let h = way-small _ _ (c .before .before .before .before .before .before .before .before .before .before .before .before .before .before .judge-sheet .ensures) (c .before .before .before .before .before .before .before .before .before .before .before .before .if1 .left) _ (nextOrder) (c .before .before .before .before .before .before .before .before .before .before .before .if2 .left) _ (c .before .before .before .before .before .before .before .before .load .ensures) _ (c .before .before .before .before .before .before .before .is-sound .ensures) (c .before .before .before .before .before .before .if3 .left) in omega arith))
+order-bits-requires c κs =
+    let b = bounded _ _ (c .before .before .before .before .before .before .before .before .before .before .before .before .before .before .judge-sheet .ensures) (c .before .before .before .before .before .before .before .before .before .before .before .before .if1 .left) in
+    let h = sound-way _ _ (went (c .before .before .before .before .before .before .before .is-sound .ensures) (c .before .before .before .before .before .before .if3 .left)) (b .1) in
+    rw (c .before .before .before .before .before .next-order .ensures) (order-small _ _ (b .0) (omega arith))
 
 returns-4 : tie.Need-returns-4
 unfolding answer after

@@ -5,7 +5,10 @@ use Rattle.run.specs.declared.Replied.{Replied}
 use Rattle.run.specs.Bytes.{bytesOf}
 use Rattle.guarantee.specs.Answers.{replyBits}
 use Rattle.guarantee.specs.Machine.{replied, answer, after}
-use Rattle.campaign.proofs.Exits.{taken-small, bounded, way-small, asked-refused, asked-short, asked-unsound, asked-done}
+use Rattle.bounded.proofs.Bools.{went}
+use Rattle.run.proofs.SoundTest.{sound-way}
+use Rattle.guarantee.proofs.Numbers.{taken-small}
+use Rattle.campaign.proofs.Exits.{bounded, asked-refused, asked-short, asked-unsound, asked-done}
 use borrow.Author.Needs.{needs}
 use Rattle.campaign.proofs.campaign_reply.Statement.{statement}
 use Rattle.campaign.proofs.campaign_reply.Tie as tie
@@ -23,7 +26,7 @@ returns-3 : tie.Need-returns-3
 returns-3 c = asked-unsound _ _ (c .before .before .before .before .before .before .before .before .before .judge-sheet .ensures) (c .before .before .before .before .before .before .before .if1 .left) _ (replied (c .before .before .before .before .before .before .before .before .before .before .before .before .args .letter) (c .before .before .before .before .before .before .before .before .before .before .before .before .args .booking)) (c .before .before .before .before .before .before .if2 .left) _ (c .before .before .before .load .ensures) _ (c .before .before .is-sound .ensures) (c .before .if3 .taken) _ (c .pack2 .ensures)
 
 reply-to-requires : tie.Need-reply-to-requires
-reply-to-requires c κs = let b = bounded _ _ (c .before .before .before .before .before .before .before .before .judge-sheet .ensures) (c .before .before .before .before .before .before .if1 .left) in (b .0, b .1, way-small _ _ (c .before .before .before .before .before .before .before .before .judge-sheet .ensures) (c .before .before .before .before .before .before .if1 .left) _ (replied (c .before .before .before .before .before .before .before .before .before .before .before .args .letter) (c .before .before .before .before .before .before .before .before .before .before .before .args .booking)) (c .before .before .before .before .before .if2 .left) _ (c .before .before .load .ensures) _ (c .before .is-sound .ensures) (c .if3 .left))
+reply-to-requires c κs = let b = bounded _ _ (c .before .before .before .before .before .before .before .before .judge-sheet .ensures) (c .before .before .before .before .before .before .if1 .left) in (b .0, b .1, sound-way _ _ (went (c .before .is-sound .ensures) (c .if3 .left)) (b .1))
 
 reply-bits-requires : tie.Need-reply-bits-requires
 reply-bits-requires c κs = λ e. taken-small _ _ _ _ _ (bounded _ _ (c .before .before .before .before .before .before .before .before .before .before .before .before .before .before .judge-sheet .ensures) (c .before .before .before .before .before .before .before .before .before .before .before .before .if1 .left) .0) (c .before .before .before .before .before .reply-to .ensures) e

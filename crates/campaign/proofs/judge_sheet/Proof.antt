@@ -6,15 +6,19 @@ use Rattle.verdict.specs.FromPlan.{networkOf}
 use Rattle.campaign.specs.Calls.{networkIn}
 use mathlib.Core.Bool.{true}
 use mathlib.Core.Path.{_≡_, ap, _∙_}
+use Rattle.bounded.proofs.Bools.{went}
 use Rattle.plan.specs.Judging.{isFine}
-use Rattle.campaign.proofs.Places.{sheet-small, verdict-small}
-use Rattle.campaign.proofs.Exits.{plan-bounds, fine-read, fine-bounds, checked-refused, checked-read}
+use Rattle.sheet.proofs.Places.{sheet-small}
+use Rattle.sheet.proofs.Accepted.{sheet-valid}
+use Rattle.verdict.proofs.Plans.{valid-fits}
+use Rattle.verdict.proofs.Places.{verdict-small}
+use Rattle.campaign.proofs.Exits.{fine-bounds, checked-refused, checked-read}
 use borrow.Author.Needs.{needs}
 use Rattle.campaign.proofs.judge_sheet.Statement.{statement}
 use Rattle.campaign.proofs.judge_sheet.Tie as tie
 
 fine : (c : tie.Else1) → isFine (sheetOf (c .before .before .before .before .args .sheet .now) .judged) ≡ true
-fine c = fine-read _ _ _ (c .before .before .read-sheet .ensures) (c .before .is-fine .ensures) (c .if1 .left)
+fine c = rw (c .before .before .read-sheet .ensures) at (went (c .before .is-fine .ensures) (c .if1 .left))
 
 net : (c : tie.After-network-of) → c .network-of .result ≡ networkIn (c .before .before .before .before .before .before .args .sheet .now)
 unfolding networkIn
@@ -27,7 +31,7 @@ returns : tie.Need-returns
 returns c = checked-refused _ _ _ _ _ (ap (λ (x : Sheet). x .judged) (c .before .before .before .before .read-sheet .ensures)) (c .before .before .before .is-fine .ensures) (c .before .before .if1 .taken) (c .before .judged-bits .ensures) (c .no-network .ensures)
 
 network-of-requires : tie.Need-network-of-requires
-network-of-requires c κs = rw (c .before .before .before .read-sheet .ensures) (plan-bounds _ (fine (c .before)))
+network-of-requires c κs = rw (c .before .before .before .read-sheet .ensures) (valid-fits _ (sheet-valid _ (fine (c .before))))
 
 check-requires : tie.Need-check-requires
 check-requires c κs = rw (net c) (fine-bounds _ (fine (c .before .before)))

@@ -3,7 +3,7 @@
 use native.Mathlib.Omega.{arith}
 use mathlib.Core.Path.{ap, _∙_}
 use Rattle.guarantee.specs.Answers.{pack, replyBits}
-use Rattle.campaign.proofs.Exits.{small-9}
+use Rattle.guarantee.proofs.Numbers.{small-9}
 use borrow.Author.Needs.{needs}
 use Rattle.campaign.proofs.reply_bits.Statement.{statement}
 use Rattle.campaign.proofs.reply_bits.Tie as tie

@@ -1,6 +1,6 @@
 -- `campaign::reply_to` meets its contract.
 -- Assumes nothing.
-use Rattle.campaign.proofs.Exits.{reply-none, reply-some}
+use Rattle.guarantee.proofs.Numbers.{reply-none, reply-some}
 use borrow.Author.Needs.{needs}
 use Rattle.campaign.proofs.reply_to.Statement.{statement}
 use Rattle.campaign.proofs.reply_to.Tie as tie

@@ -1,3 +1,5 @@
+-- `decimal::copy_in` meets its contract.
+-- Assumes nothing.
 use mathlib.Core.Path.{_∙_}
 use lib.Seq.{take-all}
 use Rattle.decimal.proofs.Stores.{sets-turn}

@@ -1,3 +1,5 @@
+-- `decimal::equal` meets its contract.
+-- Assumes nothing.
 use Rattle.decimal.proofs.Bytes.{same-not}
 use Prim.Native.Nat.{ℕ, _≤_, _<_, _-_}
 use mathlib.Core.Path.{_≡_, sym, ap}

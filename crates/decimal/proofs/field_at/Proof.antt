@@ -1,3 +1,5 @@
+-- `decimal::field_at` meets its contract.
+-- Assumes nothing.
 use borrow.Author.Needs.{needs}
 use Rattle.decimal.specs.Decimal.{fieldAt}
 use borrow.Author.Needs.{needs}

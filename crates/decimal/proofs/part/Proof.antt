@@ -1,3 +1,5 @@
+-- `decimal::part` meets its contract.
+-- Assumes nothing.
 use denote.Ref.{now}
 use Rattle.decimal.proofs.Bytes.{part-whole, part-rest, part-none}
 use borrow.Author.Needs.{needs}

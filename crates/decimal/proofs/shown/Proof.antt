@@ -1,3 +1,5 @@
+-- `decimal::shown` meets its contract.
+-- Assumes nothing.
 use Rattle.decimal.specs.Decimal.{column}
 use borrow.Author.Needs.{needs}
 use borrow.Author.Tests.{ne-eqb}

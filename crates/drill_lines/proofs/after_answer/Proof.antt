@@ -1,3 +1,5 @@
+-- `drill_lines::after_answer` meets its contract.
+-- Assumes nothing.
 use Rattle.drill_lines.proofs.StepLaws.{misfit, refused, wait, flown, called-off, on}
 use borrow.Author.Needs.{needs}
 use Rattle.drill_lines.proofs.after_answer.Statement.{statement}

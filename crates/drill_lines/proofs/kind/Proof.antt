@@ -1,3 +1,5 @@
+-- `drill_lines::kind` meets its contract.
+-- Assumes nothing.
 use mathlib.Core.Path.{refl}
 use Rattle.guarantee.specs.Answers.{kindOf}
 use borrow.Author.Needs.{needs}

@@ -1,3 +1,5 @@
+-- `drill_lines::place` meets its contract.
+-- Assumes nothing.
 use mathlib.Core.Path.{refl}
 use Rattle.guarantee.specs.Answers.{placeOf}
 use borrow.Author.Needs.{needs}

@@ -1,3 +1,5 @@
+-- `drill_lines::read_reply` meets its contract.
+-- Assumes nothing.
 use Rattle.drill_lines.proofs.ReplyLaws.{other-size, no-booking, no-feed, given}
 use Rattle.decimal.proofs.Fields.{number-small}
 use borrow.Author.Needs.{needs}

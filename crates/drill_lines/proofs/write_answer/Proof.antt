@@ -1,3 +1,5 @@
+-- `drill_lines::write_answer` meets its contract.
+-- Assumes nothing.
 use mathlib.Core.Path.{refl}
 use Rattle.drill_lines.proofs.PrintLaws.{refused, accepted, ordered}
 use borrow.Author.Needs.{needs}

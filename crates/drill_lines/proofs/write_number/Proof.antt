@@ -1,3 +1,5 @@
+-- `drill_lines::write_number` meets its contract.
+-- Assumes nothing.
 use mathlib.Core.Path.{sym}
 use Rattle.drill_lines.proofs.PrintLaws.{number-length, number-written}
 use borrow.Author.Needs.{needs}

@@ -1,3 +1,5 @@
+-- `drill_run::drill` meets its contract.
+-- Assumes nothing.
 use Rattle.drill_run.proofs.DrillLaws.{from-start}
 use borrow.Author.Needs.{needs}
 use Rattle.drill_run.proofs.drill.Statement.{statement}

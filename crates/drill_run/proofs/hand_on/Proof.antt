@@ -1,3 +1,5 @@
+-- `drill_run::hand_on` meets its contract.
+-- Assumes nothing.
 use Rattle.drill_run.proofs.DrillLaws.{no-reply, handed-on}
 use borrow.Author.Needs.{needs}
 use Rattle.drill_run.proofs.hand_on.Statement.{statement}

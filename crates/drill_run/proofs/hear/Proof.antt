@@ -1,3 +1,5 @@
+-- `drill_run::hear` meets its contract.
+-- Assumes nothing.
 use Rattle.drill_run.proofs.DrillLaws.{ended}
 use borrow.Author.Needs.{needs}
 use Rattle.drill_run.proofs.hear.Statement.{statement}

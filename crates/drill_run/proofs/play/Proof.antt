@@ -1,3 +1,5 @@
+-- `drill_run::play` meets its contract.
+-- Assumes nothing.
 use Prim.Native.Nat.{_+_, _≤_}
 use mathlib.Core.Path.{_≡_}
 use lib.ListN.{length}

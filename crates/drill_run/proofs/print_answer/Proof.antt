@@ -1,3 +1,5 @@
+-- `drill_run::print_answer` meets its contract.
+-- Assumes nothing.
 use mathlib.Core.Path.{refl}
 use Rattle.drill_lines.proofs.PrintLaws.{answer-counts}
 use borrow.Author.Needs.{needs}

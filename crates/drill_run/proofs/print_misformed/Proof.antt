@@ -1,3 +1,5 @@
+-- `drill_run::print_misformed` meets its contract.
+-- Assumes nothing.
 use mathlib.Core.Path.{refl}
 use Rattle.drill_lines.proofs.PrintLaws.{refusal-counts}
 use borrow.Author.Needs.{needs}

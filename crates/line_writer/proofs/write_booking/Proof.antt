@@ -1,3 +1,5 @@
+-- `line_writer::write_booking` meets its contract.
+-- Assumes nothing.
 use Rattle.line_writer.proofs.WriteLaws.{booking-written}
 use borrow.Author.Needs.{needs}
 use Rattle.line_writer.proofs.write_booking.Statement.{statement}

@@ -1,3 +1,5 @@
+-- `line_writer::write_head` meets its contract.
+-- Assumes nothing.
 use Rattle.line_writer.proofs.WriteLaws.{head-written}
 use borrow.Author.Needs.{needs}
 use Rattle.line_writer.proofs.write_head.Statement.{statement}

@@ -1,3 +1,5 @@
+-- `line_writer::write_link` meets its contract.
+-- Assumes nothing.
 use Rattle.line_writer.proofs.WriteLaws.{link-written}
 use borrow.Author.Needs.{needs}
 use Rattle.line_writer.proofs.write_link.Statement.{statement}

@@ -1,3 +1,5 @@
+-- `line_writer::write_links` meets its contract.
+-- Assumes nothing.
 use Prim.Native.Nat.{_+_, _*_, _-_, _≤_}
 use mathlib.Core.Path.{_≡_, refl}
 use borrow.Author.Needs.{needs}

@@ -1,3 +1,5 @@
+-- `lines::is_framed` meets its contract.
+-- Assumes nothing.
 use Rattle.lines.proofs.FormLaws.{other-size, other-letter, frame-end}
 use borrow.Author.Needs.{needs}
 use Rattle.lines.proofs.is_framed.Statement.{statement}

@@ -1,3 +1,5 @@
+-- `lines::read_head` meets its contract.
+-- Assumes nothing.
 use Rattle.lines.proofs.HeadLaws.{no-frame, no-bookings, no-links, no-ways, out, counts}
 use borrow.Author.Needs.{needs}
 use Rattle.lines.proofs.read_head.Statement.{statement}

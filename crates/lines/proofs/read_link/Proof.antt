@@ -1,3 +1,5 @@
+-- `lines::read_link` meets its contract.
+-- Assumes nothing.
 use Prim.Native.Nat.{_≤_}
 use native.Mathlib.Omega.{arith}
 use Rattle.lines.proofs.LinkLaws.{no-frame, no-first, no-second, out, pair}

@@ -1,3 +1,5 @@
+-- `plan::are_counted` meets its contract.
+-- Assumes nothing.
 use Rattle.plan.specs.Limits.{counted}
 use borrow.Author.Needs.{needs}
 use Rattle.bounded.proofs.Bools.{fails-first, fails-second, as-third}

@@ -1,3 +1,5 @@
+-- `plan::has_count` meets its contract.
+-- Assumes nothing.
 use mathlib.Core.Path.{_∙_}
 use borrow.Author.Needs.{needs}
 use Rattle.plan.proofs.has_count.Statement.{statement}

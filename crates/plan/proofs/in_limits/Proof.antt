@@ -1,3 +1,5 @@
+-- `plan::in_limits` meets its contract.
+-- Assumes nothing.
 use Rattle.plan.specs.Limits.{limits}
 use borrow.Author.Needs.{needs}
 use Rattle.plan.proofs.in_limits.Statement.{statement}

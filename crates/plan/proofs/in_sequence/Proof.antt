@@ -1,3 +1,5 @@
+-- `plan::in_sequence` meets its contract.
+-- Assumes nothing.
 use Rattle.plan.specs.Limits.{inSequence}
 use borrow.Author.Needs.{needs}
 use Rattle.bounded.proofs.Bools.{fails-first, fails-second, as-third}

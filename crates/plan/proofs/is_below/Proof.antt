@@ -1,3 +1,5 @@
+-- `plan::is_below` meets its contract.
+-- Assumes nothing.
 use mathlib.Core.Path.{sym}
 use borrow.Author.Tests.{lt-ltb}
 use borrow.Author.Needs.{needs}

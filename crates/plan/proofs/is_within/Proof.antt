@@ -1,3 +1,5 @@
+-- `plan::is_within` meets its contract.
+-- Assumes nothing.
 use borrow.Author.Tests.{le-leb, lt-leb}
 use Rattle.plan.specs.Limits.{within}
 use Rattle.plan.proofs.is_within.Statement.{statement}

@@ -1,3 +1,5 @@
+-- `plan::judge` meets its contract.
+-- Assumes nothing.
 use Rattle.plan.proofs.RecordLaws.{counts-out, counts-in, entries-out, record-fine}
 use borrow.Author.Needs.{needs}
 use Rattle.plan.proofs.judge.Statement.{statement}

@@ -1,3 +1,5 @@
+-- `plan::known_kind` meets its contract.
+-- Assumes nothing.
 use borrow.Author.Tests.{eq-eqb, ne-eqb}
 use Rattle.plan.specs.Limits.{isKind}
 use Rattle.plan.proofs.known_kind.Statement.{statement}

@@ -1,3 +1,5 @@
+-- `plan::links_rise` meets its contract.
+-- Assumes nothing.
 use native.Mathlib.Numerals.{add-one}
 use lib.ListN.{getD}
 use mathlib.Core.List.{_∷_}

@@ -1,3 +1,5 @@
+-- `plan::record_counts` meets its contract.
+-- Assumes nothing.
 use Rattle.plan.proofs.LimitLaws.{limited-by}
 use Rattle.bounded.proofs.Bools.{and-off, and-on}
 use mathlib.Core.Path.{_∙_}

@@ -1,3 +1,5 @@
+-- `plan::record_entries` meets its contract.
+-- Assumes nothing.
 use Rattle.plan.specs.Record.{entriesFit}
 use borrow.Author.Needs.{needs}
 use Rattle.bounded.proofs.Bools.{fails-first, fails-second, as-third}

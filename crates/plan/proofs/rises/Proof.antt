@@ -1,3 +1,5 @@
+-- `plan::rises` meets its contract.
+-- Assumes nothing.
 use borrow.Author.Tests.{lt-ltb, le-ltb, eq-eqb, ne-eqb}
 use Rattle.plan.specs.Limits.{rises}
 use Rattle.plan.proofs.rises.Statement.{statement}

@@ -1,3 +1,5 @@
+-- `plan::ways_fit` meets its contract.
+-- Assumes nothing.
 use Rattle.bounded.proofs.Loops.{All-far, all-far-none, all-over, all-out, all-on}
 use borrow.Author.Needs.{needs}
 use Prim.Native.Nat.{_-_, _≤_}

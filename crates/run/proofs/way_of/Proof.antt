@@ -2,7 +2,7 @@
 -- Assumes nothing.
 use borrow.Author.Needs.{needs}
 use Rattle.verdict.specs.Network.{wayOf}
-use Rattle.run.proofs.Codes.{way-entry}
+use Rattle.verdict.proofs.Facts.{way-entry}
 use Rattle.run.proofs.way_of.Statement.{statement}
 use Rattle.run.proofs.way_of.Tie as tie
 

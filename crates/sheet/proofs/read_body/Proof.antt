@@ -1,3 +1,5 @@
+-- `sheet::read_body` meets its contract.
+-- Assumes nothing.
 use Rattle.sheet.proofs.SheetLaws.{kinds-refused, links-refused, ways-refused, bytes-remain, all-read}
 use mathlib.Core.Path.{_∙_}
 use borrow.Author.Needs.{needs}

@@ -1,3 +1,5 @@
+-- `sheet::read_sheet` meets its contract.
+-- Assumes nothing.
 use Rattle.sheet.proofs.SheetLaws.{head-form, head-count, head-right}
 use borrow.Author.Needs.{needs}
 use Rattle.lines.proofs.RoundTrip.{head-limits}

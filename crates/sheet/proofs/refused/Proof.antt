@@ -1,3 +1,5 @@
+-- `sheet::refused` meets its contract.
+-- Assumes nothing.
 use mathlib.Core.Path.{refl}
 use Rattle.lines.specs.Kinds.{noKinds}
 use Rattle.lines.specs.Links.{noLinks}

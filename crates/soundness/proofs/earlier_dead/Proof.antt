@@ -6,7 +6,7 @@ use native.Mathlib.Omega.{arith}
 use borrow.Author.Needs.{needs}
 use Rattle.bounded.proofs.Loops.{So-far, so-far-none, so-far-call}
 use Rattle.run.proofs.Codes.{liveIn}
-use Rattle.soundness.proofs.Tests.{before-few, earlier-live, earlier-none}
+use Rattle.run.proofs.Codes.{before-few, earlier-live, earlier-none}
 use Rattle.soundness.proofs.earlier_dead.Statement.{statement}
 use Rattle.soundness.proofs.earlier_dead.Tie as tie
 

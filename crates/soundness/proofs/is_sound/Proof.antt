@@ -5,13 +5,14 @@ use Prim.Native.Nat.{_≤_}
 use native.Mathlib.Omega.{arith}
 use borrow.Author.Needs.{needs}
 use Rattle.bounded.proofs.Bools.{went}
-use Rattle.soundness.proofs.Tests.{Sets-of, founded-is, exposed-is, requested-is, returning-is, quiet-is, firm-is, pending-is, fails, sound-last, way-few}
+use Rattle.run.proofs.SoundTest.{fails, sound-last, way-few}
+use Rattle.soundness.proofs.Tests.{Sets-of, founded-is, exposed-is, requested-is, returning-is, quiet-is, firm-is, pending-is}
 use Rattle.soundness.proofs.is_sound.Statement.{statement}
 use Rattle.soundness.proofs.is_sound.Tie as tie
 
 -- a state that is formed has a way of at most 16
 few : (c : tie.Else1) → c .before .before .args .r .way ≤ 16
-few c = way-few _ _ _ (c .before .is-formed .ensures) (c .if1 .left) (omega arith)
+few c = way-few _ _ _ (went (c .before .is-formed .ensures) (c .if1 .left)) (omega arith)
 
 -- what was gathered
 sets : (c : tie.After-way-of) →

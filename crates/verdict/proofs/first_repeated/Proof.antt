@@ -1,3 +1,5 @@
+-- `verdict::first_repeated` meets its contract.
+-- Assumes nothing.
 use Rattle.verdict.specs.Parts.{repeatedIn}
 use Prim.Native.Nat.{_≤_, _-_}
 use Rattle.bounded.proofs.Loops.{So-far, so-far-none, so-far-call, first-call, first-over}

@@ -1,3 +1,5 @@
+-- `verdict::first_stranding` meets its contract.
+-- Assumes nothing.
 use Rattle.verdict.specs.Check.{stranding}
 use Rattle.verdict.specs.Parts.{net}
 use Prim.Native.Nat.{suc, _≤_, _-_}

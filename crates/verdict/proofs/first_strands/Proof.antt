@@ -1,3 +1,5 @@
+-- `verdict::first_strands` meets its contract.
+-- Assumes nothing.
 use Rattle.verdict.specs.Check.{strands}
 use Rattle.verdict.specs.Parts.{net}
 use Prim.Native.Nat.{_≤_, _-_}

@@ -1,3 +1,5 @@
+-- `verdict::is_repeated` meets its contract.
+-- Assumes nothing.
 use Rattle.bounded.proofs.Tests.{any-i}
 use borrow.Author.Tests.{eq-eqb, ne-eqb}
 use Rattle.verdict.specs.Parts.{sameIn, repeatedIn}

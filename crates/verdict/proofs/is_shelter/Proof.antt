@@ -1,3 +1,5 @@
+-- `verdict::is_shelter` meets its contract.
+-- Assumes nothing.
 use Rattle.verdict.specs.Parts.{shelters}
 use mathlib.Core.Path.{_∙_}
 use Rattle.sets.specs.Sets.{subsetOf}

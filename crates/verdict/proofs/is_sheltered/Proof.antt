@@ -1,3 +1,5 @@
+-- `verdict::is_sheltered` meets its contract.
+-- Assumes nothing.
 use Rattle.verdict.proofs.Parts.{none-before, after-way}
 use Rattle.verdict.specs.Parts.{sheltersAfter}
 use mathlib.Core.Path.{_∙_}

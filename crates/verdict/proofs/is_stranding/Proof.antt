@@ -1,3 +1,5 @@
+-- `verdict::is_stranding` meets its contract.
+-- Assumes nothing.
 use Rattle.verdict.proofs.Exits.{not-exposed, nothing-stays, sheltered}
 use Rattle.verdict.specs.Parts.{net}
 use borrow.Author.Needs.{needs}

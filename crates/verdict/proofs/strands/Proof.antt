@@ -1,3 +1,5 @@
+-- `verdict::strands` meets its contract.
+-- Assumes nothing.
 use Rattle.verdict.proofs.Exits.{strands-same}
 use Rattle.verdict.specs.Parts.{net}
 use Rattle.verdict.proofs.strands.Statement.{statement}

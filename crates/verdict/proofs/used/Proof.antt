@@ -1,3 +1,5 @@
+-- `verdict::used` meets its contract.
+-- Assumes nothing.
 use Rattle.bounded.proofs.Arrays.{array-fits}
 use mir.Syntax.{w64}
 use lib.ListN.{getD}

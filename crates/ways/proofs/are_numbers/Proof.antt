@@ -1,3 +1,5 @@
+-- `ways::are_numbers` meets its contract.
+-- Assumes nothing.
 use Rattle.ways.proofs.ReadLaws.{number-out, number-on}
 use Rattle.bounded.proofs.Loops.{All-far, all-far-none, all-over}
 use borrow.Author.Needs.{needs}

@@ -1,3 +1,5 @@
+-- `ways::broken` meets its contract.
+-- Assumes nothing.
 use Rattle.ways.proofs.ReadLaws.{broken-sequence, broken-form}
 use borrow.Author.Needs.{needs}
 use Rattle.ways.proofs.broken.Statement.{statement}

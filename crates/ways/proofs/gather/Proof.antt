@@ -1,3 +1,5 @@
+-- `ways::gather` meets its contract.
+-- Assumes nothing.
 use native.Mathlib.Omega.{arith}
 use Rattle.ways.proofs.ReadLaws.{gather-fault, gather-out, gather-on, gather-end}
 use borrow.Author.Needs.{needs}

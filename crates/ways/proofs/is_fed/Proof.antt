@@ -1,3 +1,5 @@
+-- `ways::is_fed` meets its contract.
+-- Assumes nothing.
 use mathlib.Core.Path.{refl}
 use Rattle.ways.proofs.ReadLaws.{no-feed}
 use Rattle.ways.specs.Way.{fedAt}

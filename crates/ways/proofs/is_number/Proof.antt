@@ -1,3 +1,5 @@
+-- `ways::is_number` meets its contract.
+-- Assumes nothing.
 use Rattle.ways.proofs.ReadLaws.{is-one, is-none}
 use borrow.Author.Needs.{needs}
 use Rattle.ways.proofs.is_number.Statement.{statement}

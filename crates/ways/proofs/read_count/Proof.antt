@@ -1,3 +1,5 @@
+-- `ways::read_count` meets its contract.
+-- Assumes nothing.
 use Rattle.ways.proofs.ReadLaws.{no-front, other-letter, count-field}
 use borrow.Author.Needs.{needs}
 use Rattle.ways.proofs.read_count.Statement.{statement}

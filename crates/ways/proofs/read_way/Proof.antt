@@ -1,3 +1,5 @@
+-- `ways::read_way` meets its contract.
+-- Assumes nothing.
 use denote.Ref.{now}
 use Prim.Native.Nat.{_≤_}
 use native.Mathlib.Omega.{arith}

@@ -1,3 +1,5 @@
+-- `ways::read_ways` meets its contract.
+-- Assumes nothing.
 use Rattle.ways.proofs.ReadLaws.{few-members, ways-on, ways-form, ways-count, ways-sequence, ways-end}
 use borrow.Author.Needs.{needs}
 use native.Mathlib.Omega.{arith}

@@ -1,3 +1,5 @@
+-- `ways::ways_size` meets its contract.
+-- Assumes nothing.
 use native.Mathlib.Omega.{arith}
 use Rattle.ways.proofs.TextLaws.{size-next, none-yet, length-all}
 use borrow.Author.Needs.{needs}

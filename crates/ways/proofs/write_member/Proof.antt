@@ -1,3 +1,5 @@
+-- `ways::write_member` meets its contract.
+-- Assumes nothing.
 use Rattle.ways.proofs.TextLaws.{room-there, there-next, there-text, absent-next, absent-text}
 use borrow.Author.Needs.{needs}
 use Rattle.ways.proofs.write_member.Statement.{statement}

@@ -1,3 +1,5 @@
+-- `ways::write_members` meets its contract.
+-- Assumes nothing.
 use native.Mathlib.Omega.{arith}
 use Rattle.ways.proofs.TextLaws.{room-member, members-next, members-on, members-count, members-done}
 use borrow.Author.Needs.{needs}

@@ -1,3 +1,5 @@
+-- `ways::write_way` meets its contract.
+-- Assumes nothing.
 use Rattle.ways.proofs.TextLaws.{way-sets}
 use borrow.Author.Needs.{needs}
 use Rattle.ways.proofs.write_way.Statement.{statement}

@@ -1,3 +1,5 @@
+-- `ways::write_ways` meets its contract.
+-- Assumes nothing.
 use Rattle.ways.proofs.TextLaws.{place-all}
 use Rattle.ways.proofs.TextLaws.{none-yet, room-way, ways-next, ways-on, ways-all}
 use native.Mathlib.Omega.{arith}

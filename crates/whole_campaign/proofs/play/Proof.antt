@@ -9,7 +9,8 @@ use Prim.Native.Nat.{ℕ, _*_, _-_, _≤_, _/_}
 use lib.ListN.{length}
 use lib.Seq.{sets}
 use Rattle.whole_campaign.specs.Play.{asksFrom, asksIn, recordOf}
-use Rattle.whole_campaign.proofs.Playing.{rest, play-turn, play-end, refused-answer, no-room, started-is, played}
+use Rattle.campaign.proofs.FirstAnswer.{started-is}
+use Rattle.whole_campaign.proofs.Playing.{rest, play-turn, play-end, refused-answer, no-room, played}
 use Rattle.whole_campaign.proofs.Whole.{from-start}
 use Rattle.whole_campaign.proofs.play.Statement.{statement}
 use Rattle.whole_campaign.proofs.play.Tie as tie
@@ -37,7 +38,7 @@ unfolding asksIn
 returns-3 c = let a = c .before .before .before .before .before .before .before .before .before .before .args in
     let e = c .before .before .before .before .before .campaign-start .ensures in
     let h = c .before .before .before .if1 .left in
-    let first = e .1 ∙ started-is _ _ refl _ (e .0) h (a .calls .now) (a .log .now) in
+    let first = e .1 ∙ started-is _ _ refl _ (e .0) h in
     let last = play-end (a .sheet .now) (a .calls .now) _ _ _ _ _ (omega arith) (c .before .loop .inv .3) in
     let r = played _ _ refl _ (e .0) h (a .calls .now) (a .log .now) (c .before .before .if2 .left) _
     (last ∙ ap (λ (st : List ℕ). sets (a .log .now) 0 (recordOf (a .sheet .now) st (asksFrom (length (a .calls .now) / 6) 0 (a .calls .now)))) first) in

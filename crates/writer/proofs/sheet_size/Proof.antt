@@ -1,3 +1,5 @@
+-- `writer::sheet_size` meets its contract.
+-- Assumes nothing.
 use native.Mathlib.Omega.{arith}
 use borrow.Author.Needs.{needs}
 use Rattle.ways.proofs.TextLaws.{ways-most}

@@ -1,3 +1,5 @@
+-- `writer::write_fine` meets its contract.
+-- Assumes nothing.
 use borrow.Author.Needs.{needs}
 use Rattle.writer.proofs.TextLaws.{too-short, left-alone, its-length, written}
 use Rattle.writer.proofs.write_fine.Statement.{statement}

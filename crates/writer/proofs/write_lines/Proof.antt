@@ -1,3 +1,5 @@
+-- `writer::write_lines` meets its contract.
+-- Assumes nothing.
 use borrow.Author.Needs.{needs}
 use Rattle.sheet.specs.Text.{sheetLength}
 use Rattle.writer.proofs.TextLaws.{all-lines}

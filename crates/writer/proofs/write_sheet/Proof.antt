@@ -1,3 +1,5 @@
+-- `writer::write_sheet` meets its contract.
+-- Assumes nothing.
 use borrow.Author.Needs.{needs}
 use Rattle.plan.proofs.Valid.{fine-limited}
 use Rattle.writer.proofs.TextLaws.{fine-answer, fine-left, count-answer, count-left, sequence-answer, sequence-left}

@@ -1,0 +1,25 @@
+-- No way line is refused past the last one.
+-- Assumes nothing.
+use mathlib.Core.List.{List}
+use Prim.Native.Nat.{ℕ, zero, suc, _+_, _*_, _≤_}
+use native.Mathlib.Omega.{arith}
+use lib.ListN.{drop, set}
+use Rattle.plan.specs.Judging.{judgedPlace}
+use Rattle.ways.specs.Way.{wayOf}
+use Rattle.ways.specs.Ways.{afterWay, waysOf}
+use Rattle.ways.specs.declared.Way.{Way}
+use Rattle.ways.specs.declared.Way.the-variants as W
+use Rattle.ways.specs.declared.Ways.{Ways}
+
+ways-next : (b : Way) (l at m : ℕ) (ws : List ℕ) (f : ℕ → ℕ → Ways) → l ≤ m → ((k s : ℕ) → judgedPlace (f k s .judged) ≤ m) → judgedPlace (afterWay b l at ws f .judged) ≤ m
+ways-next (W.Members k s) l at m ws f h n = n k s
+ways-next W.Malformed l at m ws f h n = h
+ways-next W.OutOfLimits l at m ws f h n = h
+ways-next W.OutOfSequence l at m ws f h n = h
+
+pub ways-small : (n line more i at : ℕ) (rest ws : List ℕ) → judgedPlace (waysOf n line more i at rest ws .judged) ≤ line + i + more
+unfolding waysOf
+ways-small n line zero i at rest ws = omega arith
+ways-small n line (suc more) i at rest ws =
+    ways-next (wayOf n rest) (line + i) at (line + i + suc more) ws _ (omega arith)
+    (λ k s. omega (arith, ways-small n line more (i + 1) (at + 6 + 4 * k) (drop (6 + 4 * k) rest) (set ws i s)))
