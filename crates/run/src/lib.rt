@@ -5,7 +5,7 @@ ghost use mathlib.Core.Path.{_≡_};
 ghost use mathlib.Core.Bool.{not, _&&_, cond};
 ghost use Prim.Native.Nat.{_≤_, _<_};
 ghost use lib.ListN.{length};
-ghost use Rattle.bounded.specs.Bounded.{first};
+ghost use Rattle.bounded.specs.Bounded.{any, first};
 ghost use Rattle.sets.specs.Sets.{member, gather, subsetOf, disjointFrom};
 ghost use Rattle.verdict.specs.Network.{wayOf};
 ghost use Rattle.run.specs.State.{is, put, start, lostIn, heldFirm, firstLive};
@@ -77,16 +77,34 @@ impl Run {
         }
     }
 
-    // The bookings below n that have code c.
+    // Whether some booking below n has code c.
+    fn has_code(self, n: usize, c: u8) -> bool
+        requires { ⌜ n ≤ 64 ⌝ }
+        ensures { λ t. ⌜ t ≡ any (is self c) n ⌝ }
+    {
+        let code = self.code;
+        for i in 0..n {
+            if code[i] == c {
+                return true;
+            }
+        }
+        false
+    }
+
+    // The bookings below n that have code c. Most codes are absent, and then no bit is needed.
     pub fn coded(self, n: usize, c: u8) -> u64
         requires { ⌜ n ≤ 64 ⌝ }
         ensures { λ s. ⌜ s ≡ gather (is self c) n ⌝ }
     {
+        if !self.has_code(n, c) {
+            return 0;
+        }
+        let bits = sets::bits();
         let code = self.code;
         let mut s: u64 = 0;
         for i in 0..n {
             if code[i] == c {
-                s = s | sets::bit(i);
+                s = s | bits[i];
             }
         }
         s

@@ -2,11 +2,12 @@
 -- Assumes nothing.
 use mathlib.Core.Path.{_≡_, refl, sym, ap, _∙_, ap₂}
 use mathlib.Core.Logic.{inl, inr}
-use mathlib.Core.Bool.{Bool, not, _&&_, _||_, cond}
+use mathlib.Core.Bool.{Bool, false, not, _&&_, _||_, cond}
 use mathlib.Core.List.{List}
 use Prim.Native.Nat.{ℕ, zero, suc, _-_, _^_, _≤_, _<_, _+_}
 use native.Mathlib.Nat.{lt-of-le-of-lt, pow-suc}
 use native.Mathlib.Omega.{arith}
+use borrow.Author.Tests.{eqb-true, not-false}
 use native.Mathlib.Numerals.{add-one}
 use lib.Pow.{pow-pos}
 use lib.Bits.{bitAnd, bitOr, and-le-l, or-lt}
@@ -62,6 +63,10 @@ any-gather f n =
     same-test (any f n) (some (gather f n))
     (λ e. let w = any-e f n e in some-i (gather f n) (w .0) (gather-i f n (w .0) (w .1) (w .2)))
     (λ e. let w = some-e f n e in any-i f n (w .0) (w .1) (w .2))
+
+pub gather-none : (f : ℕ → Bool) (n : ℕ) → any f n ≡ false → gather f n ≡ 0
+unfolding some
+gather-none f n e = eqb-true (gather f n) 0 (not-false _ (sym (any-gather f n) ∙ e))
 
 -- a test of every number that passes p is a test of the gathered set
 pub subset-all : (p q : ℕ → Bool) (n s t : ℕ) → n ≤ 64 → s ≡ gather p n → ((i : ℕ) → i < n → member t i ≡ q i)
