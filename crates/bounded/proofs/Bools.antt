@@ -101,6 +101,10 @@ pub and-swap : (a b : Bool) → a && b ≡ b && a
 and-swap true b = sym (and-true b)
 and-swap false b = sym (and-no-r b false refl)
 
+pub and-mid : (a b c : Bool) → (a && b) && c ≡ (a && c) && b
+and-mid true b c = and-swap b c
+and-mid false b c = refl
+
 pub and-assoc : (a b c : Bool) → (a && b) && c ≡ a && (b && c)
 and-assoc true b c = refl
 and-assoc false b c = refl

@@ -36,9 +36,9 @@ module _ (g : Network) (k x : ℕ) where
   not-exposed b e n = sym (and-no-l (exposed g x && inWay g (suc k) x) _ (sym exposed-same ∙ sym e ∙ not-true b n))
 
   -- S as the code finds it, by what is apart from x
-  module _ (h : x < g .n) (reach apart : List ℕ) (sp : Spans (g .before) (g .n) reach apart) where
+  module _ (h : x < g .n) (reach apart : List ℕ) (sp : Spans (g .before) (g .firm) (g .n) reach apart) where
     abbrev s : ℕ
-    s = bitAnd (getD apart x 0) (bitAnd (g .firm) (getD (g .way) k 0))
+    s = bitAnd (getD apart x 0) (getD (g .way) k 0)
 
     in-s : s ≡ staying g (suc k) x
     in-s = staying-same g k x h reach apart sp

@@ -10,7 +10,7 @@ use lib.Dec.{eqb, ltb}
 use lib.Bits.{bitAnd, bitOr, or-lt}
 use lib.ListN.{getD}
 use Rattle.bounded.specs.Bounded.{imp, any, all}
-use Rattle.bounded.proofs.Bools.{which, and-no-l, and-go, and-true, and-swap, or-swap, neither}
+use Rattle.bounded.proofs.Bools.{which, and-no-l, and-no-r, and-go, and-true, and-mid, or-swap, neither, _&_}
 use Rattle.bounded.proofs.Tests.{any-suc, any-ext, all-suc, all-ext}
 use Rattle.sets.specs.Sets.{member, gather, kept, subsetOf, always, allBelow}
 use Rattle.sets.proofs.Members.{member-and, member-or, member-power}
@@ -47,15 +47,21 @@ module _ (rs : List ℕ) (s i : ℕ) where
       gather-ext (leadsAll rs s i) (leadsAll rs s (i + 1)) 64 (λ y l. sym (all-suc (leads rs s y) i ∙ rw e (and-true (all (leads rs s y) i))))
 
 -- booking s is put into the sets of those that it is apart from
-pub apart-turn : (p old new : List ℕ) (s n up b : ℕ) → up ≡ reachAt p s → b ≡ 2 ^ s → PutApart old up b n new
-    → ((x : ℕ) → x < n → getD old x 0 ≡ gather (apartIn p x) s) → (x : ℕ) → x < n → getD new x 0 ≡ gather (apartIn p x) (s + 1)
+pub apart-turn : (p old new : List ℕ) (firm s n up b : ℕ) → up ≡ reachAt p s → b ≡ 2 ^ s → PutApart old up b n new → member firm s ≡ true
+    → ((x : ℕ) → x < n → getD old x 0 ≡ gather (apartIn p firm x) s) → (x : ℕ) → x < n → getD new x 0 ≡ gather (apartIn p firm x) (s + 1)
 unfolding apartIn
-apart-turn p old new s n up b eu eb t inv x h =
+apart-turn p old new firm s n up b eu eb t f inv x h =
     t .put x h
     ∙ rw (inv x h, eu, eb) (elim (which (member (reachAt p s) x)) [
-      | inl e ↦ rw e (gather-skip (apartIn p x) s (ap not e))
-      | inr e ↦ rw e (gather-put (apartIn p x) s (ap not e))
+      | inl e ↦ rw e (gather-skip (apartIn p firm x) s (and-no-r (member firm s) _ (ap not e)))
+      | inr e ↦ rw e (gather-put (apartIn p firm x) s (f & ap not e))
     ])
+
+-- one that is not firm is in none of them
+pub apart-same : (p old : List ℕ) (firm s n : ℕ) → member firm s ≡ false
+    → ((x : ℕ) → x < n → getD old x 0 ≡ gather (apartIn p firm x) s) → (x : ℕ) → x < n → getD old x 0 ≡ gather (apartIn p firm x) (s + 1)
+unfolding apartIn
+apart-same p old firm s n f inv x h = inv x h ∙ gather-skip (apartIn p firm x) s (and-no-l (member firm s) _ f)
 
 -- ---- S and the refuges of a network
 
@@ -64,23 +70,23 @@ reach-member : (p : List ℕ) (s y : ℕ) → member (reachAt p s) y ≡ member 
 unfolding reachAt
 reach-member p s y = member-or (getD p s 0) (2 ^ s) y ∙ ap (λ (b : Bool). member (getD p s 0) y || b) (member-power s y)
 
-module _ (g : Network) (k x : ℕ) (h : x < g .n) (reach apart : List ℕ) (sp : Spans (g .before) (g .n) reach apart) where
+module _ (g : Network) (k x : ℕ) (h : x < g .n) (reach apart : List ℕ) (sp : Spans (g .before) (g .firm) (g .n) reach apart) where
   abbrev here : ℕ
   here = getD (g .way) k 0
 
-  -- s is apart from x, and firm in this way
-  stays-same : (s : ℕ) → s < g .n → apartIn (g .before) x s && member (bitAnd (g .firm) here) s ≡ stays g (suc k) x s
+  -- s is firm, apart from x, and in this way
+  stays-same : (s : ℕ) → s < g .n → apartIn (g .before) (g .firm) x s && member here s ≡ stays g (suc k) x s
   unfolding apartIn stays firm inWay wayOf pre before
   stays-same s l =
-      and-swap (not (member (reachAt (g .before) s) x)) (member (bitAnd (g .firm) here) s)
-      ∙ ap₂ (λ (a b : Bool). a && b) (member-and (g .firm) here s)
+      and-mid (member (g .firm) s) (not (member (reachAt (g .before) s) x)) (member here s)
+      ∙ ap (λ (b : Bool). (member (g .firm) s && member here s) && b)
       (ap not (reach-member (g .before) s x) ∙ neither s x (member (getD (g .before) s 0) x))
 
-  pub staying-same : bitAnd (getD apart x 0) (bitAnd (g .firm) here) ≡ staying g (suc k) x
+  pub staying-same : bitAnd (getD apart x 0) here ≡ staying g (suc k) x
   unfolding staying apartAt
   staying-same =
-      ap (λ (t : ℕ). bitAnd t (bitAnd (g .firm) here)) (sp .clear x h)
-      ∙ gather-and (apartIn (g .before) x) (g .n) (bitAnd (g .firm) here)
+      ap (λ (t : ℕ). bitAnd t here) (sp .clear x h)
+      ∙ gather-and (apartIn (g .before) (g .firm) x) (g .n) here
       ∙ gather-ext _ (stays g (suc k) x) (g .n) stays-same
 
   leading-same : (y : ℕ) → leadsAll reach (staying g (suc k) x) (g .n) y ≡ all (leadsTo g (suc k) x y) (g .n)

@@ -42,17 +42,17 @@ unclosedIn p ws n k = any (gapIn p (getD ws k 0)) n
 unfoldable pub reachAt : List ℕ → ℕ → ℕ
 reachAt p s = bitOr (getD p s 0) (2 ^ s)
 
--- s is not x, and x does not precede it; the bookings below n that are so
-unfoldable pub apartIn : List ℕ → ℕ → ℕ → Bool
-apartIn p x s = not (member (reachAt p s) x)
+-- s is firm, is not x, and x does not precede it; the bookings below n that are so
+unfoldable pub apartIn : List ℕ → ℕ → ℕ → ℕ → Bool
+apartIn p firm x s = member firm s && not (member (reachAt p s) x)
 
-unfoldable pub apartAt : List ℕ → ℕ → ℕ → ℕ
-apartAt p n x = gather (apartIn p x) n
+unfoldable pub apartAt : List ℕ → ℕ → ℕ → ℕ → ℕ
+apartAt p firm n x = gather (apartIn p firm x) n
 
 -- what is found once for all ways: these two sets for each booking below n
-pub record Spans (p : List ℕ) (n : ℕ) (reach apart : List ℕ) : Type 0 where
+pub record Spans (p : List ℕ) (firm n : ℕ) (reach apart : List ℕ) : Type 0 where
   pub up : (s : ℕ) → s < n → getD reach s 0 ≡ reachAt p s
-  pub clear : (x : ℕ) → x < n → getD apart x 0 ≡ apartAt p n x
+  pub clear : (x : ℕ) → x < n → getD apart x 0 ≡ apartAt p firm n x
 
 -- a turn of that work puts b into the set of each x below n that is not in up
 pub record PutApart (old : List ℕ) (up b n : ℕ) (new : List ℕ) : Type 0 where

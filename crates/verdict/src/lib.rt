@@ -201,11 +201,11 @@ fn put_all_apart(apart: &mut [u64; 64], up: u64, b: u64, n: usize)
     }
 }
 
-// For each booking below n, itself and all that precede it; and in apart, which comes empty, the bookings below n that it
+// For each booking below n, itself and all that precede it; and in apart, which comes empty, the firm bookings below n that it
 // neither equals nor precedes. Both are found once for all ways.
-fn reaches(before: &[u64; 64], apart: &mut [u64; 64], n: usize) -> [u64; 64]
+fn reaches(before: &[u64; 64], apart: &mut [u64; 64], firm: u64, n: usize) -> [u64; 64]
     requires { ⌜ (now apart ≡ replicate 64 0) × (n ≤ 64) ⌝ }
-    ensures { λ r. ⌜ Spans (now (before .entry)) n r (now (apart .exit)) ⌝ }
+    ensures { λ r. ⌜ Spans (now (before .entry)) firm n r (now (apart .exit)) ⌝ }
 {
     let bits = sets::bits();
     let mut r = [0u64; 64];
@@ -213,7 +213,9 @@ fn reaches(before: &[u64; 64], apart: &mut [u64; 64], n: usize) -> [u64; 64]
         let b = bits[s];
         let up = before[s] | b;
         r[s] = up;
-        put_all_apart(apart, up, b, n);
+        if sets::has(firm, s) {
+            put_all_apart(apart, up, b, n);
+        }
     }
     r
 }
@@ -255,7 +257,8 @@ fn is_sheltered(s: u64, ok: u64, exposed: u64, way: &[u64; 16], w: usize, a: usi
     false
 }
 
-// 8: whether x is an exposed booking of way k + 1 that leaves something firm behind with no later way to go to.
+// 8: whether x is an exposed booking of way k + 1 that leaves something firm behind with no later way to go to. What is firm stands
+// in apart; the set itself is named for the contract.
 fn is_stranding(
     before: &[u64; 64],
     reach: &[u64; 64],
@@ -268,14 +271,14 @@ fn is_stranding(
     k: usize,
     x: usize,
 ) -> bool
-    requires { ⌜ Spans (now before) n (now reach) (now apart) × (n ≤ 64) × (a ≤ 16) × (k < a) × (x < n) ⌝ }
+    requires { ⌜ Spans (now before) firm n (now reach) (now apart) × (n ≤ 64) × (a ≤ 16) × (k < a) × (x < n) ⌝ }
     ensures { λ r. ⌜ r ≡ stranding (net n a (now (way .entry)) (now (before .entry)) firm exposed) (suc k) x ⌝ }
 {
     let here = way[k];
     if !sets::has(exposed & here, x) {
         return false;
     }
-    let stay = apart[x] & (firm & here);
+    let stay = apart[x] & here;
     if stay == 0 {
         return false;
     }
@@ -295,7 +298,7 @@ fn first_stranding(
     a: usize,
     k: usize,
 ) -> usize
-    requires { ⌜ Spans (now before) n (now reach) (now apart) × (n ≤ 64) × (a ≤ 16) × (k < a) ⌝ }
+    requires { ⌜ Spans (now before) firm n (now reach) (now apart) × (n ≤ 64) × (a ≤ 16) × (k < a) ⌝ }
     ensures { λ r. ⌜ r ≡ first (stranding (net n a (now (way .entry)) (now (before .entry)) firm exposed) (suc k)) n ⌝ }
 {
     for x in 0..n {
@@ -318,7 +321,7 @@ fn strands(
     a: usize,
     k: usize,
 ) -> bool
-    requires { ⌜ Spans (now before) n (now reach) (now apart) × (n ≤ 64) × (a ≤ 16) × (k < a) ⌝ }
+    requires { ⌜ Spans (now before) firm n (now reach) (now apart) × (n ≤ 64) × (a ≤ 16) × (k < a) ⌝ }
     ensures { λ r. ⌜ r ≡ strands (net n a (now (way .entry)) (now (before .entry)) firm exposed) k ⌝ }
 {
     first_stranding(before, reach, apart, way, firm, exposed, n, a, k) < n
@@ -335,7 +338,7 @@ fn first_strands(
     n: usize,
     a: usize,
 ) -> usize
-    requires { ⌜ Spans (now before) n (now reach) (now apart) × (n ≤ 64) × (a ≤ 16) ⌝ }
+    requires { ⌜ Spans (now before) firm n (now reach) (now apart) × (n ≤ 64) × (a ≤ 16) ⌝ }
     ensures { λ r. ⌜ r ≡ first (strands (net n a (now (way .entry)) (now (before .entry)) firm exposed)) a ⌝ }
 {
     for k in 0..a {
@@ -372,7 +375,7 @@ pub fn check(g: Network) -> Verdict
         return Verdict::Repeated(k7 + 1);
     }
     let mut apart = [0u64; 64];
-    let reach = reaches(&before, &mut apart, n);
+    let reach = reaches(&before, &mut apart, g.firm, n);
     let k8 = first_strands(&before, &reach, &apart, &way, g.firm, g.exposed, n, a);
     if k8 < a {
         let b8 = first_stranding(&before, &reach, &apart, &way, g.firm, g.exposed, n, a, k8);
