@@ -1,4 +1,6 @@
 -- Lists of calls on a sheet's bytes and a state's bytes: each call gets the sheet, and the state as the call before left it.
+-- guarantee/specs/Calls.antt has the same lists over a network. Here each call reads the sheet anew, as the calls for C do, and
+-- proofs/Whole.antt has that both are one where the sheet passes.
 -- Assumes nothing.
 use mathlib.Core.List.{List, [], _∷_}
 use Prim.Native.Nat.{ℕ}
