@@ -8,7 +8,7 @@ use mathlib.Core.List.{List, [], _∷_, _++_}
 use native.Mathlib.Omega.{arith}
 use lib.ListN.{length}
 use Rattle.guarantee.specs.Machine.{Asked, nextOrder, replied}
-use Rattle.campaign.specs.Calls.{sheetPasses, startCall, startLeaves, askedCall, askedLeaves}
+use Rattle.calls.specs.Calls.{sheetPasses, startCall, startLeaves, askedCall, askedLeaves}
 use Rattle.whole_campaign.specs.Lists.{leftOn}
 use Rattle.whole_campaign.specs.Whole.{WholeCampaign}
 use Rattle.whole_campaign.proofs.Whole.{whole-campaign}

@@ -5,7 +5,7 @@ use Prim.Native.Nat.{ℕ}
 use mathlib.Core.Path.{_≡_}
 use mathlib.Core.List.{List}
 use Rattle.guarantee.specs.Machine.{Asked, nextOrder, replied}
-use Rattle.campaign.specs.Calls.{startCall, startLeaves, askedCall, askedLeaves}
+use Rattle.calls.specs.Calls.{startCall, startLeaves, askedCall, askedLeaves}
 use Rattle.drill_lines.specs.Replies.{replyOf}
 use Rattle.drill_lines.specs.Steps.{stepOf}
 use Rattle.drill_lines.specs.declared.Reply.{Reply}

@@ -10,6 +10,7 @@ use Rattle.bounded.proofs.Bools.{which}
 use Rattle.verdict.specs.Network.{inWay}
 use Rattle.verdict.specs.declared.Network.{Network}
 use Rattle.verdict.proofs.Facts.{Passes}
+use Rattle.standing.specs.Standing.{requested, held, returning}
 use Rattle.run.specs.State.{code}
 use Rattle.run.specs.declared.Run.{Run}
 use Rattle.run.specs.declared.Ordered.{Ordered}
@@ -26,14 +27,14 @@ abbrev pub Decided : Run → Type 0
 Decided r = (b : ℕ) → awaits (code r b) ≡ 0
 
 -- the codes that neither hold a booking nor await a reply
-at-rest : (c : ℕ) → c ≤ 4 → c ≢ 1 → c ≢ 4 → awaits c ≡ 0
+at-rest : (c : ℕ) → c ≤ returning → c ≢ requested → c ≢ returning → awaits c ≡ 0
 at-rest zero h d e = refl
 at-rest (suc zero) h d e = absurd (d refl)
 at-rest (suc (suc zero)) h d e = refl
 at-rest (suc (suc (suc zero))) h d e = refl
 at-rest (suc (suc (suc (suc c)))) h d e = absurd (omega arith)
 
-let-go : (c : ℕ) → c ≤ 4 → c ≢ 2 → c ≢ 4 → hold c ≡ 0
+let-go : (c : ℕ) → c ≤ returning → c ≢ held → c ≢ returning → hold c ≡ 0
 let-go zero h d e = refl
 let-go (suc zero) h d e = refl
 let-go (suc (suc zero)) h d e = absurd (d refl)

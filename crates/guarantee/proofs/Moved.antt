@@ -13,7 +13,9 @@ use Rattle.bounded.proofs.Bools.{same?, by-cond, clash}
 use Rattle.verdict.specs.Network.{inWay, firm, exposed, repeatable}
 use Rattle.verdict.specs.declared.Network.{Network}
 use Rattle.verdict.proofs.Facts.{Passes, soft}
-use Rattle.run.specs.State.{code, put, turn, firstLive}
+use Rattle.standing.specs.Standing.{free, requested, held, lost, returning}
+use Rattle.standing.specs.Ways.{firstLive}
+use Rattle.run.specs.State.{code, standing, here, put, turn}
 use Rattle.run.specs.Replies.{Y, N, G, K, toSwitch, settle}
 use Rattle.run.specs.declared.Run.{Run}
 use Rattle.run.specs.declared.Ordered.{Ordered}
@@ -73,25 +75,25 @@ swing h r s y k m miss here there b = elim (same? b y) [ inl p ↦ rw p here | i
 -- the switch changes no code
 settle-code : (g : Network) (r : Run) (b : ℕ) → code (settle g r) b ≡ code r b
 unfolding settle code
-settle-code g r b = by-cond (λ (s : Run). code s b ≡ code r b) {t = toSwitch g r} {a = turn r (firstLive g r)} {b = r} (λ e. refl) (λ e. refl)
+settle-code g r b = by-cond (λ (s : Run). code s b ≡ code r b) {t = toSwitch (standing g r) (here g r)} {a = turn r (firstLive g (standing g r))} {b = r} (λ e. refl) (λ e. refl)
 
 -- a test with another number fails
 other : (y b : ℕ) → b ≢ y → eqb (suc y) (suc b) ≡ false
 other y b d = ne-eqb (suc y) (suc b) (λ e. d (omega arith))
 
-here : (y : ℕ) → eqb (suc y) (suc y) ≡ true
-here y = eq-eqb (suc y) (suc y) refl
+itself : (y : ℕ) → eqb (suc y) (suc y) ≡ true
+itself y = eq-eqb (suc y) (suc y) refl
 
 module _ (g : Network) (ok : Passes g) (r : Run) (s : Sound g r) where
   -- an order that sends nothing, and a reply that is refused, change nothing
-  order-still : (x : ℕ) → sends x ≡ false → Moved g r nextOrder x r
+  order-idle : (x : ℕ) → sends x ≡ false → Moved g r nextOrder x r
   unfolding confirmed returned ordered answered event again
-  order-still x e =
+  order-idle x e =
       record { sound = s; holds = λ b. refl; opens = λ b. rw e; firms = λ b z. refl; cost = rw e (omega arith) }
 
-  reply-still : (l n x : ℕ) → accepts x ≡ false → Moved g r (replied l n) x r
+  reply-idle : (l n x : ℕ) → accepts x ≡ false → Moved g r (replied l n) x r
   unfolding confirmed returned ordered answered event again
-  reply-still l n x e =
+  reply-idle l n x e =
       record { sound = s; holds = λ b. rw e; opens = λ b. rw e; firms = λ b z. rw e; cost = rw e (omega arith) }
 
   -- booking y becomes v, and perhaps the way changes
@@ -110,13 +112,13 @@ module _ (g : Network) (ok : Passes g) (r : Run) (s : Sound g r) where
         record {
           sound = st;
           holds = swing hold r t y (λ b. 0) (λ b. 0) rest (rw now (omega arith)) (λ b d. refl);
-          opens = swing awaits r t y (λ b. one (sends x && eqb (placeOf x) (suc b))) (λ b. 0) rest (rw (e, p, here y, now) (omega arith)) (λ b d. rw (e, p, other y b d));
+          opens = swing awaits r t y (λ b. one (sends x && eqb (placeOf x) (suc b))) (λ b. 0) rest (rw (e, p, itself y, now) (omega arith)) (λ b d. rw (e, p, other y b d));
           firms = λ b z. refl;
           cost = rw e (omega (arith, potential-put g ok r (s .core) y v f));
         }
 
     -- an accepted reply of letter l to y
-    reply-one : (l x : ℕ) → accepts x ≡ true → one (eqb l Y) + hold (code r y) ≡ one (eqb l G) + hold v → awaits (code r y) ≡ 1 + awaits v
+    reply-one : (l x : ℕ) → accepts x ≡ true → one (eqb l Y) + hold (code r y) ≡ one (eqb l G) + hold v → awaits (code r y) ≡ requested + awaits v
         → (firm g y ≡ true → one (eqb l G) ≡ 0)
         → 1 + weight (inWay g (r .way) y) v ≤ weight (inWay g (r .way) y) (code r y) + 2 * one ((eqb l N && repeatable g y) || eqb l K)
         → Moved g r (replied l (suc y)) x t
@@ -125,9 +127,9 @@ module _ (g : Network) (ok : Passes g) (r : Run) (s : Sound g r) where
         record {
           sound = st;
           holds = swing hold r t y (λ b. one (accepts x && (eqb (suc y) (suc b) && eqb l Y))) (λ b. one (accepts x && (eqb (suc y) (suc b) && eqb l G))) rest
-              (rw (e, here y, now) h) (λ b d. rw (e, other y b d));
-          opens = swing awaits r t y (λ b. 0) (λ b. one (accepts x && eqb (suc y) (suc b))) rest (rw (e, here y, now) (omega arith)) (λ b d. rw (e, other y b d));
-          firms = λ b z. elim (same? b y) [ inl p ↦ rw (p, e, here y) (fi (rw p at z)) | inr d ↦ rw (e, other y b d) ];
+              (rw (e, itself y, now) h) (λ b d. rw (e, other y b d));
+          opens = swing awaits r t y (λ b. 0) (λ b. one (accepts x && eqb (suc y) (suc b))) rest (rw (e, itself y, now) (omega arith)) (λ b d. rw (e, other y b d));
+          firms = λ b z. elim (same? b y) [ inl p ↦ rw (p, e, itself y) (fi (rw p at z)) | inr d ↦ rw (e, other y b d) ];
           cost = rw e (omega (arith, potential-put g ok r (s .core) y v f));
         }
 
@@ -135,23 +137,23 @@ module _ (g : Network) (ok : Passes g) (r : Run) (s : Sound g r) where
 
   order-moved : {t : Ordered} → NextCase g r t → Moved g r nextOrder (orderBits (t .order)) (t .run)
   unfolding orderBits sends kindOf pack
-  order-moved (blocked e) = order-still _ refl
+  order-moved (blocked e) = order-idle _ refl
   order-moved (gives y u e) =
       let k = return-facts g r y e in
-      let m : code r y ≡ 2 = k .held in
+      let m : code r y ≡ held = k .is-held in
       let l : suc y < 65536 = omega (arith, k .booking, ok .shape .bookings) in
-      order-one y 4 (return-fits g ok r s y u e) (put r y 4) (next-sound g ok r s (gives y u e)) (λ b. refl) (le-refl _)
+      order-one y returning (return-fits g ok r s y u e) (put r y returning) (next-sound g ok r s (gives y u e)) (λ b. refl) (le-refl _)
       (pack 2 0 (suc y)) (rw (kind-pack 2 0 (suc y) (omega arith) l)) (place-pack 2 0 (suc y) l) (rw m) (rw m) (rw (k .outside, m) (omega arith))
-  order-moved (busy e) = order-still _ refl
+  order-moved (busy e) = order-idle _ refl
   order-moved (asks y d e) =
       let k = request-facts g r y e in
-      let m : code r y ≡ 0 = k .free in
+      let m : code r y ≡ free = k .is-free in
       let l : suc y < 65536 = omega (arith, k .booking, ok .shape .bookings) in
-      order-one y 1 (request-fits g ok r s y d e) (put r y 1) (next-sound g ok r s (asks y d e)) (λ b. refl) (le-refl _)
+      order-one y requested (request-fits g ok r s y d e) (put r y requested) (next-sound g ok r s (asks y d e)) (λ b. refl) (le-refl _)
       (pack 1 0 (suc y)) (rw (kind-pack 1 0 (suc y) (omega arith) l)) (place-pack 1 0 (suc y) l) (rw m) (rw m) (rw (k .inside, m) (omega arith))
-  order-moved (pends e) = order-still _ refl
-  order-moved (over d e) = order-still _ refl
-  order-moved (flies d e) = order-still _ (rw (kind-pack 4 0 (r .way) (omega arith) (omega (arith, s .core .way, ok .shape .few))))
+  order-moved (pends e) = order-idle _ refl
+  order-moved (over d e) = order-idle _ refl
+  order-moved (flies d e) = order-idle _ (rw (kind-pack 4 0 (r .way) (omega arith) (omega (arith, s .core .way, ok .shape .few))))
 
   -- ---- replies
 
@@ -164,7 +166,7 @@ module _ (g : Network) (ok : Passes g) (r : Run) (s : Sound g r) where
   refused-9 n = rw (kind-pack 0 9 (place9 n) (omega arith) (omega (arith, small-9 n)))
 
   -- to a requested booking
-  requested-moved : (l y v : ℕ) → (h : y < g .n) (m : code r y ≡ 1) (d1 : v ≤ 3) (d2 : v ≢ 1) (z : v ≡ 3 → exposed g y ≡ true) → Sound g (settle g (put r y v))
+  requested-moved : (l y v : ℕ) → (h : y < g .n) (m : code r y ≡ requested) (d1 : v ≤ lost) (d2 : v ≢ requested) (z : v ≡ lost → exposed g y ≡ true) → Sound g (settle g (put r y v))
       → one (eqb l Y) ≡ hold v → one (eqb l G) ≡ 0 → awaits v ≡ 0 → 1 + weight true v ≤ 3 + 2 * one ((eqb l N && repeatable g y) || eqb l K)
       → Moved g r (replied l (suc y)) (pack 6 0 (suc y)) (settle g (put r y v))
   requested-moved l y v h m d1 d2 z st is-y not-g aw le =
@@ -174,7 +176,7 @@ module _ (g : Network) (ok : Passes g) (r : Run) (s : Sound g r) where
       l (pack 6 0 (suc y)) (accepted y h) (rw m (omega arith)) (rw m (omega arith)) (λ q. not-g) (rw (s .core .asked y m, m) le)
 
   -- to a returning booking
-  returning-moved : (l y v : ℕ) → (h : y < g .n) (m : code r y ≡ 4) (d1 : v ≤ 2) (d2 : v ≢ 1) → Sound g (put r y v)
+  returning-moved : (l y v : ℕ) → (h : y < g .n) (m : code r y ≡ returning) (d1 : v ≤ held) (d2 : v ≢ requested) → Sound g (put r y v)
       → one (eqb l Y) ≡ 0 → 1 ≡ one (eqb l G) + hold v → awaits v ≡ 0 → 1 + weight false v ≤ 1 + 2 * one ((eqb l N && repeatable g y) || eqb l K)
       → Moved g r (replied l (suc y)) (pack 6 0 (suc y)) (put r y v)
   returning-moved l y v h m d1 d2 st not-y is-g aw le =
@@ -184,20 +186,20 @@ module _ (g : Network) (ok : Passes g) (r : Run) (s : Sound g r) where
 
   reply-moved : (l y : ℕ) {t : Replied} → ReplyCase g r l y t → Moved g r (replied l (suc y)) (replyBits (suc y) (t .taken)) (t .run)
   unfolding replyBits repeatable
-  reply-moved l y misfit = reply-still l (suc y) _ (refused-9 (suc y))
+  reply-moved l y misfit = reply-idle l (suc y) _ (refused-9 (suc y))
   reply-moved l y (yes′ h m e) =
-      rw e (requested-moved Y y 2 h m (omega arith) (omega arith) (λ z. absurd (omega arith)) (reply-sound g ok r s l y (yes′ h m e)) refl refl refl (omega arith))
+      rw e (requested-moved Y y held h m (omega arith) (omega arith) (λ z. absurd (omega arith)) (reply-sound g ok r s l y (yes′ h m e)) refl refl refl (omega arith))
   reply-moved l y (refused h m e x) =
-      rw e (requested-moved N y 3 h m (omega arith) (omega arith) (λ z. x) (reply-sound g ok r s l y (refused h m e x)) refl refl refl (omega arith))
+      rw e (requested-moved N y lost h m (omega arith) (omega arith) (λ z. x) (reply-sound g ok r s l y (refused h m e x)) refl refl refl (omega arith))
   reply-moved l y (again′ h m e x) =
-      rw e (requested-moved N y 0 h m (omega arith) (omega arith) (λ z. absurd (omega arith)) (reply-sound g ok r s l y (again′ h m e x)) refl refl refl (rw x (omega arith)))
+      rw e (requested-moved N y free h m (omega arith) (omega arith) (λ z. absurd (omega arith)) (reply-sound g ok r s l y (again′ h m e x)) refl refl refl (rw x (omega arith)))
   reply-moved l y (returned′ h m e) =
-      rw e (returning-moved G y 0 h m (omega arith) (omega arith) (reply-sound g ok r s l y (returned′ h m e)) refl refl refl (omega arith))
+      rw e (returning-moved G y free h m (omega arith) (omega arith) (reply-sound g ok r s l y (returned′ h m e)) refl refl refl (omega arith))
   reply-moved l y (kept h m e) =
-      rw e (returning-moved K y 2 h m (omega arith) (omega arith) (reply-sound g ok r s l y (kept h m e)) refl refl refl (omega arith))
+      rw e (returning-moved K y held h m (omega arith) (omega arith) (reply-sound g ok r s l y (kept h m e)) refl refl refl (omega arith))
 
   pub moved : (q : Asked) → Moved g r q (answer g r q) (after g r q)
   unfolding answer after replyTo replyBits
   moved nextOrder = order-moved (next-case g r)
-  moved (replied l zero) = reply-still l zero _ (refused-9 zero)
+  moved (replied l zero) = reply-idle l zero _ (refused-9 zero)
   moved (replied l (suc y)) = reply-moved l y (reply-case g r l y)

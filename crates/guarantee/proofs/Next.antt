@@ -2,20 +2,24 @@
 -- Assumes nothing.
 use mathlib.Core.Path.{_≡_}
 use mathlib.Core.Logic.{_≢_, _⊎_, inl, inr}
-use mathlib.Core.Bool.{Bool, true, false, not, _&&_, _||_}
+use mathlib.Core.Bool.{Bool, true, false, not, _&&_}
 use Prim.Native.Nat.{ℕ, _<_}
 use native.Mathlib.Omega.{arith}
+use lib.Bits.{bitAnd, bitOr}
 use borrow.Author.Tests.{not-true}
-use Rattle.bounded.proofs.Bools.{clash, which, same?, off, and-l, and-r, _&_, not-i, or-cases, or-l, or-r}
-use Rattle.bounded.proofs.Tests.{any-i, any-n, any-o}
+use Rattle.bounded.proofs.Bools.{clash, which, same?, off, and-l, and-r, _&_, not-i}
+use Rattle.bounded.proofs.Tests.{any-i}
 use Rattle.bounded.proofs.Extreme.{extreme}
 use Rattle.sets.specs.Sets.{some}
-use Rattle.sets.proofs.Facts.{subset-e, subset-i}
+use Rattle.sets.proofs.Facts.{subset-e, subset-i, both-i, either-e, either-l, either-r, without-i}
 use Rattle.verdict.specs.Network.{inWay, before, pre, firm, returnable}
 use Rattle.verdict.specs.declared.Network.{Network}
 use Rattle.verdict.proofs.Facts.{Passes}
-use Rattle.run.specs.State.{code, is, coded, held, put, lostIn}
-use Rattle.run.specs.Orders.{supports, needed, toReturn, ready, toRequest}
+use Rattle.standing.specs.Standing.{free, requested, held, lost, returning, coded}
+use Rattle.standing.specs.Ways.{precedesSome, ready, lostIn}
+use Rattle.standing.proofs.Facts.{precedes-i, precedes-e}
+use Rattle.run.specs.State.{code, is, standing, here, put}
+use Rattle.run.specs.Orders.{toReturn, toRequest}
 use Rattle.run.specs.declared.Run.{Run}
 use Rattle.run.specs.declared.Ordered.{Ordered}
 use Rattle.run.specs.declared.Order.the-variants.{Wait}
@@ -23,89 +27,96 @@ use Rattle.run.proofs.Facts.{Core, Sound, is-i, is-e, coded-i, coded-e, some-co
 use Rattle.run.proofs.Cases.{Idle, Done, NextCase, blocked, gives, busy, asks, pends, over, flies, return-facts, request-facts}
 use Rattle.guarantee.proofs.Change.{Fits, hit, miss, change}
 
+-- the held and returning bookings
+abbrev kept : Network → Run → ℕ
+kept g r = bitOr (standing g r .held) (standing g r .returning)
+
 module _ (g : Network) (ok : Passes g) (r : Run) (c : Core g r) where
-  in-n : (b : ℕ) → code r b ≢ 0 → b < g .n
+  in-n : (b : ℕ) → code r b ≢ free → b < g .n
   in-n b d = inside g r (c .past) b d
 
   low : (b : ℕ) → b < g .n → b < 64
   low b h = omega (arith, ok .shape .bookings)
 
   -- no booking has a code that none has
-  none-is : (k b : ℕ) → k ≢ 0 → some (coded g r k) ≡ false → code r b ≢ k
+  none-is : (k b : ℕ) → k ≢ free → some (coded (r .code) (g .n) k) ≡ false → code r b ≢ k
   none-is k b d e m = none-coded g r k e b (in-n b (omega arith)) m
 
-  not-lost : lostIn g r (r .way) ≡ false → (b : ℕ) → code r b ≡ 3 → inWay g (r .way) b ≡ true → ⊥
-  not-lost u b e i = clash (lostIn g r (r .way)) (lost-i g (ok .shape .bookings) r (r .way) b (in-n b (omega arith)) i e) u
+  not-lost : lostIn (standing g r) (here g r) ≡ false → (b : ℕ) → code r b ≡ lost → inWay g (r .way) b ≡ true → ⊥
+  not-lost u b e i = clash (lostIn (standing g r) (here g r)) (lost-i g (ok .shape .bookings) r (r .way) b (in-n b (omega arith)) i e) u
 
   -- rule 2 finds a booking while one is held outside the current way: of these a last one in the order precedes nothing held
-  pub no-loose : Idle g r → (b : ℕ) → code r b ≡ 2 → inWay g (r .way) b ≡ true
-  unfolding toReturn needed supports
+  pub no-loose : Idle g r → (b : ℕ) → code r b ≡ held → inWay g (r .way) b ≡ true
+  unfolding toReturn inWay
   no-loose i b e = elim (which (inWay g (r .way) b)) [
     | inl z ↦ z
     | inr o ↦
-        (let t = extreme (pre g) (ok .irreflexive) (ok .shape .transitive) loose (g .n) (any-i loose (g .n) b (in-n b (omega arith)) (is-i r 2 b e & not-i _ o)) in
+        (let t = extreme (pre g) (ok .irreflexive) (ok .shape .transitive) loose (g .n) (any-i loose (g .n) b (in-n b (omega arith)) (is-i r held b e & not-i _ o)) in
         let m = t .0 in
         let x = t .1 in
-        let f : needed g r m ≡ false =
-        any-o (supports g r m) (g .n) (λ v l q.
-        let p : pre g m v ≡ true = and-r (is r 2 v || is r 4 v) _ q in
-        elim (or-cases (is r 2 v) (is r 4 v) (and-l (is r 2 v || is r 4 v) _ q)) [
-          | inl y ↦ clash (pre g m v) p (x .apart v l (y & not-i _ (outside m v (not-true _ (and-r (is r 2 m) _ (x .passes))) p)))
-          | inr y ↦ none-is 4 v (omega arith) (i .none-returning) (is-e r 4 v y)
+        let out : inWay g (r .way) m ≡ false = not-true _ (and-r (is r held m) _ (x .passes)) in
+        let f : precedesSome g (kept g r) m ≡ false =
+        off (precedesSome g (kept g r) m) (λ q.
+        let w = precedes-e g (kept g r) m q in
+        let v = w .0 in
+        elim (either-e (standing g r .held) (standing g r .returning) v (w .2)) [
+          | inl y ↦ clash (pre g m v) (w .3) (x .apart v (w .1) (is-i r held v (coded-e g r held v y .1) & not-i _ (outside m v out (w .3))))
+          | inr y ↦ none-is returning v (omega arith) (i .none-returning) (coded-e g r returning v y .1)
         ]) in
-        clash (toReturn g r m)
-        (coded-i g r 2 m (x .below) (is-e r 2 m (and-l (is r 2 m) _ (x .passes))) & and-r (is r 2 m) _ (x .passes) & not-i _ f)
+        clash (toReturn g (standing g r) (here g r) m)
+        (without-i (standing g r .held) (here g r) m (low m (x .below)) (coded-i g r held m (x .below) (is-e r held m (and-l (is r held m) _ (x .passes)))) out & not-i _ f)
         (i .kept m (low m (x .below))))
   ]
     where
       loose : ℕ → Bool
-      loose a = is r 2 a && not (inWay g (r .way) a)
+      loose a = is r held a && not (inWay g (r .way) a)
 
       outside : (a v : ℕ) → inWay g (r .way) a ≡ false → pre g a v ≡ true → inWay g (r .way) v ≡ false
       outside a v o p = off (inWay g (r .way) v) (λ y. clash (inWay g (r .way) a) (ok .closed (r .way) a v (c .way) y p) o)
 
   -- where the run ends, a booking of the current way that is not held is free
-  free-or-held : Done g r → (b : ℕ) → inWay g (r .way) b ≡ true → code r b ≢ 2 → code r b ≡ 0
+  free-or-held : Done g r → (b : ℕ) → inWay g (r .way) b ≡ true → code r b ≢ held → code r b ≡ free
   free-or-held d b i n =
-      let n3 : code r b ≢ 3 = λ e. not-lost (d .idle .unlost) b e i in
-      omega (arith, c .codes b, none-is 1 b (omega arith) (d .none-requested), none-is 4 b (omega arith) (d .idle .none-returning))
+      let n3 : code r b ≢ lost = λ e. not-lost (d .idle .unlost) b e i in
+      omega (arith, c .codes b, none-is requested b (omega arith) (d .none-requested), none-is returning b (omega arith) (d .idle .none-returning))
 
   -- rule 4 finds a booking while one of the current way is free: of these a first one in the order has all predecessors held
-  pub all-held : Done g r → (b : ℕ) → inWay g (r .way) b ≡ true → code r b ≡ 2
-  unfolding toRequest ready pre
-  all-held d b i = elim (same? (code r b) 2) [
+  pub all-held : Done g r → (b : ℕ) → inWay g (r .way) b ≡ true → code r b ≡ held
+  unfolding toRequest ready pre inWay
+  all-held d b i = elim (same? (code r b) held) [
     | inl e ↦ e
     | inr n ↦
         (let t = extreme (λ u v. pre g v u) (ok .irreflexive) (λ u v w e f. ok .shape .transitive w v u f e) unmet (g .n)
-        (any-i unmet (g .n) b (ok .shape .way-n (r .way) b (c .way) i) (is-i r 0 b (free-or-held d b i n) & i)) in
+        (any-i unmet (g .n) b (ok .shape .way-n (r .way) b (c .way) i) (is-i r free b (free-or-held d b i n) & i)) in
         let m = t .0 in
         let x = t .1 in
-        let im : inWay g (r .way) m ≡ true = and-r (is r 0 m) _ (x .passes) in
-        let f : ready g r m ≡ true =
-        subset-i (before g m) (held g r) (λ u h e.
+        let im : inWay g (r .way) m ≡ true = and-r (is r free m) _ (x .passes) in
+        let f : ready g (standing g r) m ≡ true =
+        subset-i (before g m) (standing g r .held) (λ u h e.
         let iu = ok .closed (r .way) u m (c .way) im e in
         let l = ok .shape .pre-n u m e .0 in
-        coded-i g r 2 u l (elim (same? (code r u) 2) [
+        coded-i g r held u l (elim (same? (code r u) held) [
           | inl z ↦ z
-          | inr z ↦ clash (pre g u m) e (x .apart u l (is-i r 0 u (free-or-held d u iu z) & iu))
+          | inr z ↦ clash (pre g u m) e (x .apart u l (is-i r free u (free-or-held d u iu z) & iu))
         ])) in
-        clash (toRequest g r m) (coded-i g r 0 m (x .below) (is-e r 0 m (and-l (is r 0 m) _ (x .passes))) & im & f) (d .full m (low m (x .below))))
+        clash (toRequest g (standing g r) (here g r) m)
+        (both-i (standing g r .free) (here g r) m (coded-i g r free m (x .below) (is-e r free m (and-l (is r free m) _ (x .passes)))) im & f) (d .full m (x .below)))
   ]
     where
       unmet : ℕ → Bool
-      unmet a = is r 0 a && inWay g (r .way) a
+      unmet a = is r free a && inWay g (r .way) a
 
   -- where the run ends, what is outside the current way is neither held nor awaited
-  pub none-else : Done g r → (b : ℕ) → inWay g (r .way) b ≡ false → (code r b ≢ 2) × (code r b ≢ 1) × (code r b ≢ 4)
+  pub none-else : Done g r → (b : ℕ) → inWay g (r .way) b ≡ false → (code r b ≢ held) × (code r b ≢ requested) × (code r b ≢ returning)
   none-else d b o =
-      (λ e. clash (inWay g (r .way) b) (no-loose (d .idle) b e) o, none-is 1 b (omega arith) (d .none-requested), none-is 4 b (omega arith) (d .idle .none-returning))
+      (λ e. clash (inWay g (r .way) b) (no-loose (d .idle) b e) o, none-is requested b (omega arith) (d .none-requested), none-is returning b (omega arith) (d .idle .none-returning))
 
 module _ (g : Network) (ok : Passes g) (r : Run) (s : Sound g r) where
   c′ : Core g r
   c′ = s .core
 
   -- the state after an order
-  after-order : (x v : ℕ) → v ≢ 3 → lostIn g r (r .way) ≡ false → Fits g r x v → Sound g (put r x v)
+  after-order : (x v : ℕ) → v ≢ lost → lostIn (standing g r) (here g r) ≡ false → Fits g r x v → Sound g (put r x v)
   unfolding c′
   after-order x v d u f =
       record {
@@ -116,11 +127,11 @@ module _ (g : Network) (ok : Passes g) (r : Run) (s : Sound g r) where
         ];
       }
 
-  pub return-fits : (x : ℕ) → lostIn g r (r .way) ≡ false → toReturn g r x ≡ true → Fits g r x 4
-  unfolding c′ needed supports returnable
+  pub return-fits : (x : ℕ) → lostIn (standing g r) (here g r) ≡ false → toReturn g (standing g r) (here g r) x ≡ true → Fits g r x returning
+  unfolding c′ returnable
   return-fits x u e =
       let t = return-facts g r x e in
-      let m : code r x ≡ 2 = t .held in
+      let m : code r x ≡ held = t .is-held in
       let soft : firm g x ≡ false = off (firm g x) (λ z. clash (inWay g (r .way) x) (c′ .firm-in x m z) (t .outside)) in
       record {
         booking = t .booking;
@@ -128,39 +139,43 @@ module _ (g : Network) (ok : Passes g) (r : Run) (s : Sound g r) where
         unlost = omega arith;
         ready = λ a w p. c′ .preds w x (omega arith) (λ z. absurd (omega arith)) p;
         lets = λ w a i p.
-            let k = any-n (supports g r x) (g .n) (t .loose) w (inside g r (c′ .past) w a) in
-            let n1 : code r w ≢ 1 = c′ .quiet x w m (t .outside) in
-            let n2 : code r w ≢ 2 = λ z. clash (supports g r x w) (or-l (is r 2 w) _ (is-i r 2 w z) & p) k in
-            let n3 : code r w ≢ 3 = λ z. not-lost g ok r c′ u w z (i z) in
-            let n4 : code r w ≢ 4 = λ z. clash (supports g r x w) (or-r (is r 2 w) _ (is-i r 4 w z) & p) k in
+            let h = inside g r (c′ .past) w a in
+            let n1 : code r w ≢ requested = c′ .quiet-outside x w m (t .outside) in
+            let n2 : code r w ≢ held = λ z.
+            clash (precedesSome g (kept g r) x)
+            (precedes-i g (kept g r) x w h (either-l (standing g r .held) (standing g r .returning) w (coded-i g r held w h z)) p) (t .loose) in
+            let n3 : code r w ≢ lost = λ z. not-lost g ok r c′ u w z (i z) in
+            let n4 : code r w ≢ returning = λ z.
+            clash (precedesSome g (kept g r) x)
+            (precedes-i g (kept g r) x w h (either-r (standing g r .held) (standing g r .returning) w (coded-i g r returning w h z)) p) (t .loose) in
             absurd (omega (arith, c′ .codes w));
         shown = λ z. absurd (omega arith);
         asked = λ z. absurd (omega arith);
         going = λ z. (ok .shape .kinds x (t .booking) soft & not-i _ soft, t .outside);
-        quiet = λ z. absurd (omega arith);
-        still = λ z. absurd (omega arith);
+        quiet-outside = λ z. absurd (omega arith);
+        quiet-returning = λ z. absurd (omega arith);
         loose = λ z. absurd (omega arith);
-        alone = λ z q a. c′ .quiet x q m (t .outside) a;
+        alone = λ z q a. c′ .quiet-outside x q m (t .outside) a;
         keeps = λ z a. clash (firm g x) a soft;
         firm-in = λ z. absurd (omega arith);
       }
 
-  pub request-fits : (y : ℕ) → Idle g r → toRequest g r y ≡ true → Fits g r y 1
+  pub request-fits : (y : ℕ) → Idle g r → toRequest g (standing g r) (here g r) y ≡ true → Fits g r y requested
   unfolding c′ ready pre
   request-fits y d e =
       let t = request-facts g r y e in
-      let m : code r y ≡ 0 = t .free in
+      let m : code r y ≡ free = t .is-free in
       record {
         booking = t .booking;
         small = omega arith;
         unlost = omega arith;
-        ready = λ n u p. coded-e g r 2 u (subset-e (before g y) (held g r) u (t .based) (low g ok r c′ u (ok .shape .pre-n u y p .0)) p) .1;
+        ready = λ n u p. coded-e g r held u (subset-e (before g y) (standing g r .held) u (t .based) (low g ok r c′ u (ok .shape .pre-n u y p .0)) p) .1;
         lets = λ w n l p. absurd (omega (arith, c′ .preds y w n l p));
         shown = λ z. absurd (omega arith);
         asked = λ z. t .inside;
         going = λ z. absurd (omega arith);
-        quiet = λ z b k o. clash (inWay g (r .way) b) (no-loose g ok r c′ d b k) o;
-        still = λ z b k. none-is g ok r c′ 4 b (omega arith) (d .none-returning) k;
+        quiet-outside = λ z b k o. clash (inWay g (r .way) b) (no-loose g ok r c′ d b k) o;
+        quiet-returning = λ z b k. none-is g ok r c′ returning b (omega arith) (d .none-returning) k;
         loose = λ z. absurd (omega arith);
         alone = λ z. absurd (omega arith);
         keeps = λ z. absurd (omega arith);
@@ -169,19 +184,19 @@ module _ (g : Network) (ok : Passes g) (r : Run) (s : Sound g r) where
 
   pub next-sound : {t : Ordered} → NextCase g r t → Sound g (t .run)
   next-sound (blocked e) = s
-  next-sound (gives x u e) = after-order x 4 (omega arith) u (return-fits x u e)
+  next-sound (gives x u e) = after-order x returning (omega arith) u (return-fits x u e)
   next-sound (busy e) = s
-  next-sound (asks y d e) = after-order y 1 (omega arith) (d .unlost) (request-fits y d e)
+  next-sound (asks y d e) = after-order y requested (omega arith) (d .unlost) (request-fits y d e)
   next-sound (pends e) = s
   next-sound (over d e) = s
   next-sound (flies d e) = s
 
   -- next order waits only where something is requested or returning
-  pub waits-for : {t : Ordered} → NextCase g r t → t .order ≡ Wait → (b : ℕ) × ((code r b ≡ 1) ⊎ (code r b ≡ 4))
+  pub waits-for : {t : Ordered} → NextCase g r t → t .order ≡ Wait → (b : ℕ) × ((code r b ≡ requested) ⊎ (code r b ≡ returning))
   waits-for (blocked e) p = let l = lost-e g r (r .way) e in let q = s .waits (l .0) (l .2) (l .1) in (q .0, inl (q .1))
   waits-for (gives x u e) p = clash true (cc) (cc)
-  waits-for (busy e) p = let q = some-coded g r 4 e in (q .0, inr (q .2))
+  waits-for (busy e) p = let q = some-coded g r returning e in (q .0, inr (q .2))
   waits-for (asks y d e) p = clash true (cc) (cc)
-  waits-for (pends e) p = let q = some-coded g r 1 e in (q .0, inl (q .2))
+  waits-for (pends e) p = let q = some-coded g r requested e in (q .0, inl (q .2))
   waits-for (over d e) p = clash true (cc) (cc)
   waits-for (flies d e) p = clash true (cc) (cc)

@@ -15,7 +15,9 @@ use Rattle.sets.specs.Sets.{member, sizeOf, some}
 use Rattle.verdict.specs.Network.{wayOf, inWay}
 use Rattle.verdict.specs.declared.Network.{Network}
 use Rattle.verdict.proofs.Facts.{Passes, no-way, some-way}
-use Rattle.run.specs.State.{code, requested, put, turn, live, start}
+use Rattle.standing.specs.Standing.{returning}
+use Rattle.standing.specs.Ways.{liveAt}
+use Rattle.run.specs.State.{code, standing, put, turn, start}
 use Rattle.run.specs.Replies.{toSwitch, settle}
 use Rattle.run.specs.declared.Run.{Run}
 use Rattle.run.proofs.Facts.{Core, lost-e}
@@ -88,7 +90,7 @@ size-sum : (g : Network) (w : ℕ) → sizeOf (wayOf g w) ≡ sum (λ b. one (in
 unfolding sizeOf inWay
 size-sum g w = count-sum (member (wayOf g w)) 64
 
-weight-le : (i j : Bool) (c : ℕ) → c ≤ 4 → c ≢ 4 → weight j c ≤ weight i c + 4 * one j
+weight-le : (i j : Bool) (c : ℕ) → c ≤ returning → c ≢ returning → weight j c ≤ weight i c + 4 * one j
 weight-le i true zero h d = omega arith
 weight-le i true (suc zero) h d = omega arith
 weight-le i true (suc (suc zero)) h d = omega arith
@@ -124,7 +126,7 @@ potential-put g ok r c x v f =
     omega (arith, e, h)
 
 -- the way changes to a later one, or to none
-module _ (g : Network) (r : Run) (c : Core g r) (stopped : (b : ℕ) → code r b ≢ 4) where
+module _ (g : Network) (r : Run) (c : Core g r) (stopped : (b : ℕ) → code r b ≢ returning) where
   load-turn : (w : ℕ) → load g (turn r w) ≤ load g r + 4 * sizeOf (wayOf g w)
   unfolding load code
   load-turn w =
@@ -150,10 +152,10 @@ module _ (g : Network) (r : Run) (c : Core g r) (stopped : (b : ℕ) → code r 
   potential-settle ok =
       by-cond (λ (s : Run). potential g s ≤ potential g r)
       (λ e.
-      let l = lost-e g r (r .way) (and-r (not (some (requested g r))) _ e) in
-      go (some-way g (r .way) (l .0) (l .1)) (λ k a. later g ok r c (l .0) (l .2) (l .1) k a) (first-live g r))
+      let l = lost-e g r (r .way) (and-r (not (some (standing g r .requested))) _ e) in
+      go (some-way g (r .way) (l .0) (l .1)) (λ k a. later g ok r c (l .0) (l .2) (l .1) k a) (first-live g (standing g r)))
       (λ e. le-refl _)
     where
-      go : r .way ≢ 0 → ((k : ℕ) → live g r (suc k) ≡ true → r .way ≤ k) → {w : ℕ} → FirstLive g r w → potential g (turn r w) ≤ potential g r
+      go : r .way ≢ 0 → ((k : ℕ) → liveAt g (standing g r) k ≡ true → r .way ≤ k) → {w : ℕ} → FirstLive g (standing g r) w → potential g (turn r w) ≤ potential g r
       go n late (at k h a b) = potential-turn k h n (late k a)
       go n late (nowhere b) = potential-off

@@ -8,11 +8,12 @@ use lib.ListN.{getD-replicate, replicate, List·getD-eq-default}
 use Rattle.bounded.proofs.Bools.{split?}
 use Rattle.verdict.specs.declared.Network.{Network}
 use Rattle.verdict.proofs.Facts.{Passes}
+use Rattle.standing.specs.Standing.{free}
 use Rattle.run.specs.State.{code, start}
 use Rattle.run.specs.Sound.{waysBefore}
 use Rattle.run.proofs.Facts.{Sound}
 
-pub all-free : (b : ℕ) → code start b ≡ 0
+pub all-free : (b : ℕ) → code start b ≡ free
 unfolding code start
 all-free b = elim (split? b 64) [ inl h ↦ getD-replicate 64 b 0 0 h | inr h ↦ List·getD-eq-default (replicate 64 0) 0 h ]
 
@@ -29,8 +30,8 @@ start-sound g ok =
         shown = λ b e. absurd (omega (arith, all-free b));
         asked = λ b e. absurd (omega (arith, all-free b));
         going = λ b e. absurd (omega (arith, all-free b));
-        quiet = λ b q e o m. omega (arith, all-free b);
-        still = λ b q e m. omega (arith, all-free b);
+        quiet-outside = λ b q e o m. omega (arith, all-free b);
+        quiet-returning = λ b q e m. omega (arith, all-free b);
         earlier = λ k h. absurd (omega arith);
         firm-in = λ b e z. absurd (omega (arith, all-free b));
       };

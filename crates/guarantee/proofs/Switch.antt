@@ -11,7 +11,9 @@ use Rattle.sets.specs.Sets.{some}
 use Rattle.verdict.specs.Network.{inWay, pre, firm}
 use Rattle.verdict.specs.declared.Network.{Network}
 use Rattle.verdict.proofs.Facts.{Passes, Stays, no-way}
-use Rattle.run.specs.State.{code, is, coded, requested, turn, lostIn, heldFirmAt, heldFirm, live, firstLive}
+use Rattle.standing.specs.Standing.{requested, held, lost, returning}
+use Rattle.standing.specs.Ways.{lostIn, liveAt, firstLive}
+use Rattle.run.specs.State.{code, standing, here, turn}
 use Rattle.run.specs.Replies.{toSwitch, settle}
 use Rattle.run.specs.Sound.{waysBefore}
 use Rattle.run.specs.declared.Run.{Run}
@@ -19,8 +21,8 @@ use Rattle.run.proofs.Facts.{Core, Sound, Live, live-e, live-i, inside, lost-e,
 use Rattle.run.proofs.Cases.{FirstLive, at, nowhere, first-live}
 
 -- x is lost in the current way, and nothing is requested or returning
-module _ (g : Network) (ok : Passes g) (r : Run) (c : Core g r) (x : ℕ) (lx : code r x ≡ 3) (ix : inWay g (r .way) x ≡ true) where
-  stays : (h : ℕ) → code r h ≡ 2 → firm g h ≡ true → Stays g (r .way) x h
+module _ (g : Network) (ok : Passes g) (r : Run) (c : Core g r) (x : ℕ) (lx : code r x ≡ lost) (ix : inWay g (r .way) x ≡ true) where
+  stays : (h : ℕ) → code r h ≡ held → firm g h ≡ true → Stays g (r .way) x h
   stays h e z =
       record {
         is-firm = z;
@@ -30,7 +32,7 @@ module _ (g : Network) (ok : Passes g) (r : Run) (c : Core g r) (x : ℕ) (lx : 
       }
 
   -- if a firm booking is held, a later way is live
-  refuge : (h : ℕ) → code r h ≡ 2 → firm g h ≡ true → (j : ℕ) × (r .way < j) × (j ≤ g .a) × Live g r j
+  refuge : (h : ℕ) → code r h ≡ held → firm g h ≡ true → (j : ℕ) × (r .way < j) × (j ≤ g .a) × Live g r j
   refuge h e z =
       let p = ok .refuge (r .way) x h (c .way) (c .shown x lx) ix (stays h e z) in
       let j = p .0 in
@@ -50,33 +52,33 @@ module _ (g : Network) (ok : Passes g) (r : Run) (c : Core g r) (x : ℕ) (lx : 
         },
       )
 
-  dead : ((i : ℕ) → i < g .a → live g r (suc i) ≡ false) → (j : ℕ) → r .way < j → j ≤ g .a → Live g r j → ⊥
+  dead : ((i : ℕ) → i < g .a → liveAt g (standing g r) i ≡ false) → (j : ℕ) → r .way < j → j ≤ g .a → Live g r j → ⊥
   dead b zero h l p = omega arith
-  dead b (suc j) h l p = clash (live g r (suc j)) (live-i g r (suc j) p) (b j l)
+  dead b (suc j) h l p = clash (liveAt g (standing g r) j) (live-i g r j p) (b j l)
 
   -- never stranded: with a firm booking held, the switch finds a way
-  pub never-stranded : (h : ℕ) → code r h ≡ 2 → firm g h ≡ true → ((i : ℕ) → i < g .a → live g r (suc i) ≡ false) → ⊥
+  pub never-stranded : (h : ℕ) → code r h ≡ held → firm g h ≡ true → ((i : ℕ) → i < g .a → liveAt g (standing g r) i ≡ false) → ⊥
   never-stranded h e z b = let p = refuge h e z in dead b (p .0) (p .1) (p .2) (p .3)
 
   -- the way found is later than the current one
-  pub later : (k : ℕ) → live g r (suc k) ≡ true → r .way ≤ k
+  pub later : (k : ℕ) → liveAt g (standing g r) k ≡ true → r .way ≤ k
   unfolding waysBefore
   later k a = go (r .way) refl
     where
       go : (w : ℕ) → r .way ≡ w → w ≤ k
       go zero e = omega arith
       go (suc m) e = elim (split? k m) [
-        | inl h ↦ clash (live g r (suc k)) a (c .earlier k (rw e h))
+        | inl h ↦ clash (liveAt g (standing g r) k) a (c .earlier k (rw e h))
         | inr h ↦ elim (same? m k) [
-          | inl p ↦ absurd (live-e g (ok .shape .bookings) r (suc k) (c .past) a .unlost x (rw (← p, ← e) ix) lx)
+          | inl p ↦ absurd (live-e g (ok .shape .bookings) r k (c .past) a .unlost x (rw (← p, ← e) ix) lx)
           | inr d ↦ omega arith
         ]
       ]
 
-  module _ (none : (q : ℕ) → code r q ≢ 1) (stopped : (b : ℕ) → code r b ≢ 4) where
+  module _ (none : (q : ℕ) → code r q ≢ requested) (stopped : (b : ℕ) → code r b ≢ returning) where
     -- the state after the switch is sound, if its way has no lost booking and all that is held and firm
-    turned : (w : ℕ) → w ≤ g .a → Live g r w → ((k : ℕ) → k < waysBefore g w → live g r (suc k) ≡ false) → Sound g (turn r w)
-    unfolding code is coded lostIn heldFirmAt heldFirm live
+    turned : (w : ℕ) → w ≤ g .a → Live g r w → ((k : ℕ) → k < waysBefore g w → liveAt g (standing g r) k ≡ false) → Sound g (turn r w)
+    unfolding code
     turned w h l b =
         record {
           core = record {
@@ -88,37 +90,37 @@ module _ (g : Network) (ok : Passes g) (r : Run) (c : Core g r) (x : ℕ) (lx : 
             shown = c .shown;
             asked = λ q e. absurd (none q e);
             going = λ q e. absurd (stopped q e);
-            quiet = λ p q e o m. none q m;
-            still = λ p q e m. none q m;
+            quiet-outside = λ p q e o m. none q m;
+            quiet-returning = λ p q e m. none q m;
             earlier = b;
             firm-in = l .has-firm;
           };
           waits = λ q e i. absurd (l .unlost q i e);
         }
 
-    switched : Sound g (turn r (firstLive g r))
+    switched : Sound g (turn r (firstLive g (standing g r)))
     unfolding waysBefore
-    switched = go (first-live g r)
+    switched = go (first-live g (standing g r))
       where
-        go : {w : ℕ} → FirstLive g r w → Sound g (turn r w)
-        go (at k h a b) = turned (suc k) h (live-e g (ok .shape .bookings) r (suc k) (c .past) a) b
+        go : {w : ℕ} → FirstLive g (standing g r) w → Sound g (turn r w)
+        go (at k h a b) = turned (suc k) h (live-e g (ok .shape .bookings) r k (c .past) a) b
         go (nowhere b) =
             turned 0 (omega arith) (record { unlost = λ q i e. clash (inWay g 0 q) i (no-way g q); has-firm = λ q e z. absurd (never-stranded q e z b) }) b
 
 -- what follows a Y or an N
-pub settled : (g : Network) → Passes g → (r : Run) → Core g r → ((b : ℕ) → code r b ≢ 4) → Sound g (settle g r)
+pub settled : (g : Network) → Passes g → (r : Run) → Core g r → ((b : ℕ) → code r b ≢ returning) → Sound g (settle g r)
 unfolding settle toSwitch
 settled g ok r c stopped =
     by-cond (Sound g)
     (λ e.
-    let l = lost-e g r (r .way) (and-r (not (some (requested g r))) _ e) in
+    let l = lost-e g r (r .way) (and-r (not (some (standing g r .requested))) _ e) in
     switched g ok r c (l .0) (l .2) (l .1)
-    (λ q m. none-coded g r 1 (not-true _ (and-l (not (some (requested g r))) _ e)) q (inside g r (c .past) q (omega arith)) m) stopped)
+    (λ q m. none-coded g r requested (not-true _ (and-l (not (some (standing g r .requested))) _ e)) q (inside g r (c .past) q (omega arith)) m) stopped)
     (λ e. record {
       core = c;
-      waits = λ b l i. elim (which (some (requested g r))) [
-        | inl p ↦ (let m = some-coded g r 1 p in (m .0, m .2))
+      waits = λ b l i. elim (which (some (standing g r .requested))) [
+        | inl p ↦ (let m = some-coded g r requested p in (m .0, m .2))
         | inr p ↦ (let z = lost-i g (ok .shape .bookings) r (r .way) b (inside g r (c .past) b (omega arith)) i l in
-            clash (not (some (requested g r)) && lostIn g r (r .way)) (not-i _ p & z) e)
+            clash (not (some (standing g r .requested)) && lostIn (standing g r) (here g r)) (not-i _ p & z) e)
       ];
     })

@@ -2,5 +2,5 @@
 pub mod Facts
 pub mod Cases
 pub mod SoundTest
-pub mod Codes
+pub mod Steps
 pub mod Exits

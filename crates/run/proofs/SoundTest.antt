@@ -6,21 +6,32 @@ use mathlib.Core.Bool.{Bool, true, false, not, _&&_, _||_}
 use Prim.Native.Nat.{ℕ, _≤_, _<_}
 use native.Mathlib.Omega.{arith}
 use lib.Dec.{leb}
+use lib.Bits.{bitAnd, bitOr}
 use lib.ListN.{length, List·getD-eq-default}
 use borrow.Author.Tests.{leb-true, le-leb, not-true}
-use Rattle.bounded.specs.Bounded.{any}
 use Rattle.bounded.proofs.Bools.{clash, same?, split?, and-l, and-r, _&_, or-cases, or-l, or-r, not-i, off, imp-e, imp-i}
-use Rattle.bounded.proofs.Tests.{any-i, any-e, all-i, all-e}
-use Rattle.sets.specs.Sets.{some}
-use Rattle.sets.proofs.Facts.{gather-e, gather-i, subset-e, subset-i, some-i}
-use Rattle.verdict.specs.Network.{wayOf, inWay, before, pre, exposed, returnable}
+use Rattle.bounded.proofs.Tests.{all-i, all-e}
+use Rattle.sets.specs.Sets.{member, without, subsetOf, some}
+use Rattle.sets.proofs.Facts.{subset-e, subset-i, some-i, some-member, both-i, both-e, either-e, either-l, either-r, without-i, without-e}
+use Rattle.sets.proofs.Gather.{gather-lt}
+use Rattle.verdict.specs.Network.{wayOf, inWay, pre, firm, exposed, returnable}
 use Rattle.verdict.specs.declared.Network.{Network}
 use Rattle.verdict.proofs.Facts.{Shape}
-use Rattle.run.specs.State.{code, is, held, lost, requested, heldFirmAt, heldFirm, liveAt}
-use Rattle.run.specs.Orders.{ready}
-use Rattle.run.specs.Sound.{codeKnown, codesKnown, wayKnown, zeroPast, restZero, founded, allFounded, lostExposed, requestedInside, mayReturn, returningOutside, leaving, quiet, waysBefore, passedOver, earlierDead, firmInside, pending, lostPending, sound}
+use Rattle.standing.specs.Standing.{free, requested, held, lost, returning}
+use Rattle.standing.specs.Ways.{preceding, lostIn, heldFirm, liveAt}
+use Rattle.standing.proofs.Facts.{preceding-i, preceding-e}
+use Rattle.run.specs.State.{code, is, standing, here}
+use Rattle.run.specs.Sound.{codeKnown, codesKnown, wayKnown, zeroPast, restZero, allFounded, lostExposed, requestedInside, returningOutside, quiet, waysBefore, passedOver, earlierDead, firmInside, lostPending, sound}
 use Rattle.run.specs.declared.Run.{Run}
-use Rattle.run.proofs.Facts.{Core, Sound, is-i, is-e, coded-i, coded-e, some-coded, none-coded, inside}
+use Rattle.run.proofs.Facts.{Core, Sound, is-i, is-e, coded-i, coded-e, some-coded, none-coded, firm-i, firm-e, inside, lost-i, lost-e}
+
+-- the requested, held and returning bookings
+abbrev active : Network → Run → ℕ
+active g r = bitOr (standing g r .requested) (bitOr (standing g r .held) (standing g r .returning))
+
+-- the lost bookings of the current way
+abbrev gone : Network → Run → ℕ
+gone g r = bitAnd (standing g r .lost) (here g r)
 
 -- ---- a sound state passes
 
@@ -28,60 +39,69 @@ module _ (g : Network) (sh : Shape g) (r : Run) (s : Sound g r) where
   c : Core g r
   c = s .core
 
-  is-ready : (b : ℕ) → code r b ≢ 0 → (code r b ≡ 3 → inWay g (r .way) b ≡ true) → ready g r b ≡ true
-  unfolding ready pre c
-  is-ready b n i = subset-i (before g b) (held g r) (λ u h e. coded-i g r 2 u (sh .pre-n u b e .0) (c .preds u b n i e))
-
-  active : (b : ℕ) → is r 1 b || (is r 2 b || is r 4 b) ≡ true → (code r b ≢ 0) × (code r b ≢ 3)
-  active b e = elim (or-cases (is r 1 b) (is r 2 b || is r 4 b) e) [
-    | inl z ↦ omega (arith, is-e r 1 b z)
-    | inr y ↦ elim (or-cases (is r 2 b) (is r 4 b) y) [ inl z ↦ omega (arith, is-e r 2 b z) | inr z ↦ omega (arith, is-e r 4 b z) ]
+  active-e : (b : ℕ) → member (active g r) b ≡ true → (code r b ≢ free) × (code r b ≢ lost)
+  active-e b e = elim (either-e (standing g r .requested) (bitOr (standing g r .held) (standing g r .returning)) b e) [
+    | inl z ↦ omega (arith, coded-e g r requested b z .1)
+    | inr y ↦ elim (either-e (standing g r .held) (standing g r .returning) b y) [
+      | inl z ↦ omega (arith, coded-e g r held b z .1)
+      | inr z ↦ omega (arith, coded-e g r returning b z .1)
+    ]
   ]
 
-  leaves : (b q : ℕ) → leaving g r b ≡ true → code r q ≢ 1
-  unfolding leaving c
-  leaves b q e m = elim (or-cases (is r 2 b && not (inWay g (r .way) b)) (is r 4 b) e) [
-    | inl z ↦ c .quiet b q (is-e r 2 b (and-l (is r 2 b) _ z)) (not-true _ (and-r (is r 2 b) _ z)) m
-    | inr z ↦ c .still b q (is-e r 4 b z) m
+  -- what precedes a member of a set is held, if each member is in use, and in the current way if it is lost
+  based : (t : ℕ) → ((v : ℕ) → member t v ≡ true → (code r v ≢ free) × (code r v ≡ lost → inWay g (r .way) v ≡ true)) → (u : ℕ) → u < 64
+      → member (preceding g t) u ≡ true → member (standing g r .held) u ≡ true
+  unfolding c
+  based t f u h m =
+      let p = preceding-e g t u m in
+      let k = f (p .0) (p .2) in
+      coded-i g r held u (sh .pre-n u (p .0) (p .3) .0) (c .preds u (p .0) (k .0) (k .1) (p .3))
+
+  leaves : (q : ℕ) → some (without (standing g r .held) (here g r)) || some (standing g r .returning) ≡ true → code r q ≢ requested
+  unfolding without inWay c
+  leaves q e m = elim (or-cases (some (without (standing g r .held) (here g r))) (some (standing g r .returning)) e) [
+    | inl z ↦
+        (let i = some-member (without (standing g r .held) (here g r)) (gather-lt _ 64) z in
+        let t = without-e (standing g r .held) (here g r) (i .0) (i .1) in
+        c .quiet-outside (i .0) q (coded-e g r held (i .0) (t .1) .1) (t .2) m)
+    | inr z ↦ (let t = some-coded g r returning z in c .quiet-returning (t .0) q (t .2) m)
   ]
 
   pub sound-i : sound g r ≡ true
-  unfolding sound codesKnown codeKnown wayKnown restZero zeroPast allFounded founded lostExposed requestedInside returningOutside mayReturn quiet earlierDead passedOver liveAt firmInside heldFirm heldFirmAt lostPending pending inWay exposed c
+  unfolding sound codesKnown codeKnown wayKnown restZero zeroPast allFounded lostExposed requestedInside returningOutside quiet earlierDead passedOver firmInside lostPending inWay firm exposed returnable c
   sound-i =
       all-i (codeKnown r) 64 (λ b h. le-leb _ _ (c .codes b))
       & le-leb _ _ (c .way)
-      & all-i (zeroPast g r) 64 (λ b h. imp-i _ _ (λ e. is-i r 0 b (c .past b (leb-true _ _ e))))
-      & all-i (founded g r) (g .n) (λ b h. imp-i _ _ (λ e. let a = active b e in is-ready b (a .0) (λ z. absurd (a .1 z))))
-      & subset-i (lost g r) (g .exposed) (λ b h m. c .shown b (coded-e g r 3 b m .1))
-      & subset-i (requested g r) (wayOf g (r .way)) (λ b h m. c .asked b (coded-e g r 1 b m .1))
-      & all-i (mayReturn g r) (g .n) (λ b h. imp-i _ _ (λ e. let t = c .going b (is-e r 4 b e) in t .0 & not-i _ (t .1)))
-      & imp-i _ _ (λ e. not-i _ (off (some (requested g r)) (λ z.
-      let t = any-e (leaving g r) (g .n) e in
-      let q = some-coded g r 1 z in
-      leaves (t .0) (q .0) (t .2) (q .2))))
-      & all-i (passedOver g r) (waysBefore g (r .way)) (λ k h. not-i _ (c .earlier k h))
-      & subset-i (heldFirm g r) (wayOf g (r .way)) (λ b h m.
-      let t = gather-e (heldFirmAt g r) (g .n) b m .1 in
-      c .firm-in b (is-e r 2 b (and-l (is r 2 b) _ t)) (and-r (is r 2 b) _ t))
-      & all-i (pending g r) (g .n) (λ b h. imp-i _ _ (λ e.
-      let l = is-e r 3 b (and-l (is r 3 b) _ e) in
-      let i = and-r (is r 3 b) _ e in
-      let q = s .waits b l i in
-      is-ready b (omega arith) (λ z. i)
-      & some-i (requested g r) (q .0) (coded-i g r 1 (q .0) (inside g r (c .past) (q .0) (omega (arith, q .1))) (q .1))))
+      & all-i (zeroPast g r) 64 (λ b h. imp-i _ _ (λ e. is-i r free b (c .past b (leb-true _ _ e))))
+      & subset-i (preceding g (active g r)) (standing g r .held) (based (active g r) (λ v m. let a = active-e v m in (a .0, λ z. absurd (a .1 z))))
+      & subset-i (standing g r .lost) (g .exposed) (λ b h m. c .shown b (coded-e g r lost b m .1))
+      & subset-i (standing g r .requested) (here g r) (λ b h m. c .asked b (coded-e g r requested b m .1))
+      & subset-i (standing g r .returning) (without (without (g .exposed) (g .firm)) (here g r)) (λ b h m.
+      let t = c .going b (coded-e g r returning b m .1) in
+      without-i (without (g .exposed) (g .firm)) (here g r) b h
+      (without-i (g .exposed) (g .firm) b h (and-l (member (g .exposed) b) _ (t .0)) (not-true _ (and-r (member (g .exposed) b) _ (t .0)))) (t .1))
+      & imp-i _ _ (λ e. not-i _ (off (some (standing g r .requested)) (λ z. let q = some-coded g r requested z in leaves (q .0) e (q .2))))
+      & all-i (passedOver g (standing g r)) (waysBefore g (r .way)) (λ k h. not-i _ (c .earlier k h))
+      & subset-i (heldFirm g (standing g r)) (here g r) (λ b h m. let t = firm-e g r b m in c .firm-in b (t .0) (t .1))
+      & subset-i (preceding g (gone g r)) (standing g r .held)
+      (based (gone g r) (λ v m. let t = both-e (standing g r .lost) (here g r) v m in (omega (arith, coded-e g r lost v (t .0) .1), λ z. t .1)))
+      & imp-i _ _ (λ e.
+      let l = lost-e g r (r .way) e in
+      let q = s .waits (l .0) (l .2) (l .1) in
+      some-i (standing g r .requested) (q .0) (coded-i g r requested (q .0) (inside g r (c .past) (q .0) (omega (arith, q .1))) (q .1)))
 
 -- ---- one sentence after the other
 
 -- the sentences of the rule, all but the last
 pub record Sentences (g : Network) (r : Run) : Type 0 where
   pub formed : codesKnown r && (wayKnown g r && restZero g r) ≡ true
-  pub founds : allFounded g r ≡ true
-  pub exposes : lostExposed g r ≡ true
-  pub requests : requestedInside g r ≡ true
-  pub returns : returningOutside g r ≡ true
-  pub quiets : quiet g r ≡ true
-  pub earlier : earlierDead g r ≡ true
-  pub firms : firmInside g r ≡ true
+  pub founds : allFounded g (standing g r) ≡ true
+  pub exposes : lostExposed g (standing g r) ≡ true
+  pub requests : requestedInside (standing g r) (here g r) ≡ true
+  pub returns : returningOutside g (standing g r) (here g r) ≡ true
+  pub quiets : quiet (standing g r) (here g r) ≡ true
+  pub earlier : earlierDead g (standing g r) (r .way) ≡ true
+  pub firms : firmInside g (standing g r) (here g r) ≡ true
 
 pub sentences : (g : Network) (r : Run) → sound g r ≡ true → Sentences g r
 unfolding sound
@@ -89,21 +109,21 @@ sentences g r e =
     let e1 = and-r (codesKnown r) _ e in
     let e2 = and-r (wayKnown g r) _ e1 in
     let e3 = and-r (restZero g r) _ e2 in
-    let e4 = and-r (allFounded g r) _ e3 in
-    let e5 = and-r (lostExposed g r) _ e4 in
-    let e6 = and-r (requestedInside g r) _ e5 in
-    let e7 = and-r (returningOutside g r) _ e6 in
-    let e8 = and-r (quiet g r) _ e7 in
-    let e9 = and-r (earlierDead g r) _ e8 in
+    let e4 = and-r (allFounded g (standing g r)) _ e3 in
+    let e5 = and-r (lostExposed g (standing g r)) _ e4 in
+    let e6 = and-r (requestedInside (standing g r) (here g r)) _ e5 in
+    let e7 = and-r (returningOutside g (standing g r) (here g r)) _ e6 in
+    let e8 = and-r (quiet (standing g r) (here g r)) _ e7 in
+    let e9 = and-r (earlierDead g (standing g r) (r .way)) _ e8 in
     record {
       formed = and-l (codesKnown r) _ e & (and-l (wayKnown g r) _ e1 & and-l (restZero g r) _ e2);
-      founds = and-l (allFounded g r) _ e3;
-      exposes = and-l (lostExposed g r) _ e4;
-      requests = and-l (requestedInside g r) _ e5;
-      returns = and-l (returningOutside g r) _ e6;
-      quiets = and-l (quiet g r) _ e7;
-      earlier = and-l (earlierDead g r) _ e8;
-      firms = and-l (firmInside g r) _ e9;
+      founds = and-l (allFounded g (standing g r)) _ e3;
+      exposes = and-l (lostExposed g (standing g r)) _ e4;
+      requests = and-l (requestedInside (standing g r) (here g r)) _ e5;
+      returns = and-l (returningOutside g (standing g r) (here g r)) _ e6;
+      quiets = and-l (quiet (standing g r) (here g r)) _ e7;
+      earlier = and-l (earlierDead g (standing g r) (r .way)) _ e8;
+      firms = and-l (firmInside g (standing g r) (here g r)) _ e9;
     }
 
 -- one sentence that fails is enough: x is what its test gave
@@ -111,7 +131,7 @@ pub fails : (g : Network) (r : Run) (a : Bool) → (Sentences g r → a ≡ true
 fails g r a p x e n = sym (off (sound g r) (λ s. clash a (p (sentences g r s)) (sym e ∙ not-true x n)))
 
 -- the last sentence decides where all others hold
-pub sound-last : (g : Network) (r : Run) → Sentences g r → lostPending g r ≡ sound g r
+pub sound-last : (g : Network) (r : Run) → Sentences g r → lostPending g (standing g r) (here g r) ≡ sound g r
 unfolding sound
 sound-last g r p =
     let f = and-r (codesKnown r) _ (p .formed) in
@@ -128,62 +148,63 @@ sound-way g r e h = way-few g r _ e h
 
 -- ---- a state that passes is sound
 
-module _ (g : Network) (sh : Shape g) (r : Run) (size : length (r .code) ≡ 64) (t : Sentences g r) (last : lostPending g r ≡ true) where
+module _ (g : Network) (sh : Shape g) (r : Run) (size : length (r .code) ≡ 64) (t : Sentences g r) (last : lostPending g (standing g r) (here g r) ≡ true) where
   known : wayKnown g r && restZero g r ≡ true
   known = and-r (codesKnown r) _ (t .formed)
 
-  outside : (b : ℕ) → 64 ≤ b → code r b ≡ 0
+  outside : (b : ℕ) → 64 ≤ b → code r b ≡ free
   unfolding code
   outside b h = List·getD-eq-default (r .code) 0 (omega arith)
 
-  past-f : (b : ℕ) → g .n ≤ b → code r b ≡ 0
+  past-f : (b : ℕ) → g .n ≤ b → code r b ≡ free
   unfolding restZero zeroPast
   past-f b h = elim (split? b 64) [
-    | inl l ↦ is-e r 0 b (imp-e (leb (g .n) b) _ (all-e (zeroPast g r) 64 (and-r (wayKnown g r) _ known) b l) (le-leb _ _ h))
+    | inl l ↦ is-e r free b (imp-e (leb (g .n) b) _ (all-e (zeroPast g r) 64 (and-r (wayKnown g r) _ known) b l) (le-leb _ _ h))
     | inr l ↦ outside b l
   ]
 
-  codes-f : (b : ℕ) → code r b ≤ 4
+  codes-f : (b : ℕ) → code r b ≤ returning
   unfolding codesKnown codeKnown
   codes-f b = elim (split? b 64) [ inl l ↦ leb-true _ _ (all-e (codeKnown r) 64 (and-l (codesKnown r) _ (t .formed)) b l) | inr l ↦ omega (arith, outside b l) ]
 
-  in-n : (b : ℕ) → code r b ≢ 0 → b < g .n
+  in-n : (b : ℕ) → code r b ≢ free → b < g .n
   in-n b n = inside g r past-f b n
 
   low : (b : ℕ) → b < g .n → b < 64
   low b h = omega (arith, sh .bookings)
 
-  ready-e : (b u : ℕ) → ready g r b ≡ true → pre g u b ≡ true → code r u ≡ 2
-  unfolding ready pre
-  ready-e b u d p = coded-e g r 2 u (subset-e (before g b) (held g r) u d (low u (sh .pre-n u b p .0)) p) .1
+  active-i : (b : ℕ) → code r b ≢ free → code r b ≢ lost → member (active g r) b ≡ true
+  active-i b n m =
+      let h = in-n b n in
+      let hr = bitOr (standing g r .held) (standing g r .returning) in
+      elim (same? (code r b) requested) [
+        | inl z ↦ either-l (standing g r .requested) hr b (coded-i g r requested b h z)
+        | inr n1 ↦ either-r (standing g r .requested) hr b (elim (same? (code r b) held) [
+          | inl z ↦ either-l (standing g r .held) (standing g r .returning) b (coded-i g r held b h z)
+          | inr n2 ↦ either-r (standing g r .held) (standing g r .returning) b (coded-i g r returning b h (omega (arith, codes-f b)))
+        ])
+      ]
 
-  active-i : (b : ℕ) → code r b ≢ 0 → code r b ≢ 3 → is r 1 b || (is r 2 b || is r 4 b) ≡ true
-  active-i b n m = elim (same? (code r b) 1) [
-    | inl z ↦ or-l (is r 1 b) _ (is-i r 1 b z)
-    | inr n1 ↦ or-r (is r 1 b) _ (elim (same? (code r b) 2) [
-      | inl z ↦ or-l (is r 2 b) _ (is-i r 2 b z)
-      | inr n2 ↦ or-r (is r 2 b) _ (is-i r 4 b (omega (arith, codes-f b)))
-    ])
+  -- what precedes a member of such a set is held
+  based-e : (s : ℕ) → subsetOf (preceding g s) (standing g r .held) ≡ true → (u v : ℕ) → member s v ≡ true → pre g u v ≡ true → code r u ≡ held
+  based-e s e u v m p =
+      let h = sh .pre-n u v p in
+      coded-e g r held u (subset-e (preceding g s) (standing g r .held) u e (low u (h .0)) (preceding-i g s u v (low u (h .0)) (h .1) m p)) .1
+
+  preds-f : (u v : ℕ) → code r v ≢ free → (code r v ≡ lost → inWay g (r .way) v ≡ true) → pre g u v ≡ true → code r u ≡ held
+  unfolding allFounded lostPending inWay
+  preds-f u v n i p = elim (same? (code r v) lost) [
+    | inl l ↦ based-e (gone g r) (and-l (subsetOf (preceding g (gone g r)) (standing g r .held)) _ last) u v
+        (both-i (standing g r .lost) (here g r) v (coded-i g r lost v (in-n v n) l) (i l)) p
+    | inr m ↦ based-e (active g r) (t .founds) u v (active-i v n m) p
   ]
 
-  pending-f : (b : ℕ) → code r b ≡ 3 → inWay g (r .way) b ≡ true → ready g r b && some (requested g r) ≡ true
-  unfolding lostPending pending
-  pending-f b l i = imp-e (is r 3 b && inWay g (r .way) b) _ (all-e (pending g r) (g .n) last b (in-n b (omega arith))) (is-i r 3 b l & i)
-
-  preds-f : (u v : ℕ) → code r v ≢ 0 → (code r v ≡ 3 → inWay g (r .way) v ≡ true) → pre g u v ≡ true → code r u ≡ 2
-  unfolding allFounded founded
-  preds-f u v n i p = elim (same? (code r v) 3) [
-    | inl l ↦ ready-e v u (and-l (ready g r v) _ (pending-f v l (i l))) p
-    | inr m ↦ ready-e v u (imp-e (is r 1 v || (is r 2 v || is r 4 v)) _ (all-e (founded g r) (g .n) (t .founds) v (in-n v n)) (active-i v n m)) p
-  ]
-
-  quiet-f : (b q : ℕ) → leaving g r b ≡ true → b < g .n → code r q ≢ 1
+  quiet-f : (q : ℕ) → some (without (standing g r .held) (here g r)) || some (standing g r .returning) ≡ true → code r q ≢ requested
   unfolding quiet
-  quiet-f b q e l m =
-      none-coded g r 1 (not-true _ (imp-e (any (leaving g r) (g .n)) _ (t .quiets) (any-i (leaving g r) (g .n) b l e))) q (in-n q (omega arith)) m
+  quiet-f q e m = none-coded g r requested (not-true _ (imp-e (some (without (standing g r .held) (here g r)) || some (standing g r .returning)) _ (t .quiets) e)) q (in-n q (omega arith)) m
 
   sentences-sound : Sound g r
-  unfolding wayKnown lostExposed requestedInside returningOutside mayReturn leaving earlierDead passedOver liveAt firmInside heldFirm heldFirmAt inWay exposed
+  unfolding wayKnown lostExposed requestedInside returningOutside earlierDead passedOver firmInside lostPending inWay firm exposed returnable
   sentences-sound =
       record {
         core = record {
@@ -192,19 +213,28 @@ module _ (g : Network) (sh : Shape g) (r : Run) (size : length (r .code) ≡ 64)
           way = leb-true _ _ (and-l (wayKnown g r) _ known);
           past = past-f;
           preds = preds-f;
-          shown = λ b m. let h = in-n b (omega arith) in subset-e (lost g r) (g .exposed) b (t .exposes) (low b h) (coded-i g r 3 b h m);
-          asked = λ b m. let h = in-n b (omega arith) in subset-e (requested g r) (wayOf g (r .way)) b (t .requests) (low b h) (coded-i g r 1 b h m);
+          shown = λ b m. let h = in-n b (omega arith) in subset-e (standing g r .lost) (g .exposed) b (t .exposes) (low b h) (coded-i g r lost b h m);
+          asked = λ b m. let h = in-n b (omega arith) in subset-e (standing g r .requested) (here g r) b (t .requests) (low b h) (coded-i g r requested b h m);
           going = λ b m.
-              let k = imp-e (is r 4 b) _ (all-e (mayReturn g r) (g .n) (t .returns) b (in-n b (omega arith))) (is-i r 4 b m) in
-              (and-l (returnable g b) _ k, not-true _ (and-r (returnable g b) _ k));
-          quiet = λ b q m o. quiet-f b q (or-l (is r 2 b && not (inWay g (r .way) b)) _ (is-i r 2 b m & not-i _ o)) (in-n b (omega arith));
-          still = λ b q m. quiet-f b q (or-r (is r 2 b && not (inWay g (r .way) b)) _ (is-i r 4 b m)) (in-n b (omega arith));
-          earlier = λ k h. not-true _ (all-e (passedOver g r) (waysBefore g (r .way)) (t .earlier) k h);
+              let h = in-n b (omega arith) in
+              let k = without-e (without (g .exposed) (g .firm)) (here g r) b
+              (subset-e (standing g r .returning) (without (without (g .exposed) (g .firm)) (here g r)) b (t .returns) (low b h) (coded-i g r returning b h m)) in
+              let e = without-e (g .exposed) (g .firm) b (k .1) in
+              (e .1 & not-i _ (e .2), k .2);
+          quiet-outside = λ b q m o. let h = in-n b (omega arith) in
+              quiet-f q (or-l (some (without (standing g r .held) (here g r))) _
+              (some-i (without (standing g r .held) (here g r)) b (without-i (standing g r .held) (here g r) b (low b h) (coded-i g r held b h m) o)));
+          quiet-returning = λ b q m.
+              quiet-f q (or-r (some (without (standing g r .held) (here g r))) _ (some-i (standing g r .returning) b (coded-i g r returning b (in-n b (omega arith)) m)));
+          earlier = λ k h. not-true _ (all-e (passedOver g (standing g r)) (waysBefore g (r .way)) (t .earlier) k h);
           firm-in = λ b m z.
               let h = in-n b (omega arith) in
-              subset-e (heldFirm g r) (wayOf g (r .way)) b (t .firms) (low b h) (gather-i (heldFirmAt g r) (g .n) b h (is-i r 2 b m & z));
+              subset-e (heldFirm g (standing g r)) (here g r) b (t .firms) (low b h) (firm-i g r b h m z);
         };
-        waits = λ b l i. let q = some-coded g r 1 (and-r (ready g r b) _ (pending-f b l i)) in (q .0, q .2);
+        waits = λ b l i.
+            let z = lost-i g (sh .bookings) r (r .way) b (in-n b (omega arith)) i l in
+            let q = some-coded g r requested (imp-e (lostIn (standing g r) (here g r)) _ (and-r (subsetOf (preceding g (gone g r)) (standing g r .held)) _ last) z) in
+            (q .0, q .2);
       }
 
 pub sound-e : (g : Network) → Shape g → (r : Run) → length (r .code) ≡ 64 → sound g r ≡ true → Sound g r

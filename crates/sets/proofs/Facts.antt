@@ -1,18 +1,19 @@
 -- Sets made by a test, subsets, sets apart and sets that are not empty, as facts about members: e takes a fact out, i brings one in, n is for none.
 -- Assumes nothing.
 use mathlib.Core.Path.{_≡_, sym, _∙_, refl, ap}
-use mathlib.Core.Logic.{inl, inr, _≢_}
+use mathlib.Core.Logic.{_⊎_, inl, inr, _≢_}
 use mathlib.Core.Bool.{Bool, true, not, _&&_, false}
-use Prim.Native.Nat.{ℕ, _<_, zero, suc}
+use Prim.Native.Nat.{ℕ, _<_, zero, suc, _^_}
 use native.Mathlib.Nat.{zero-mul, zero-add, le-refl}
 use native.Mathlib.Omega.{arith}
 use lib.Dec.{eqb}
+use lib.Bits.{bitAnd, bitOr}
 use borrow.Author.Tests.{eqb-true, eq-eqb, ne-eqb, not-true, not-false}
-use Rattle.bounded.proofs.Bools.{clash, split?, imp-e, imp-i, off, and-l, and-r, not-i, which, _&_}
+use Rattle.bounded.proofs.Bools.{clash, split?, imp-e, imp-i, off, and-l, and-r, not-i, which, _&_, or-cases, or-l, or-r}
 use Rattle.bounded.proofs.Tests.{all-i, all-e, all-n}
-use Rattle.sets.specs.Sets.{member, gather, kept, subsetOf, apart, disjointFrom, some}
-use Rattle.sets.proofs.Gather.{member-gather, member-gather-past}
-use Rattle.sets.proofs.Members.{member-zero}
+use Rattle.sets.specs.Sets.{member, gather, kept, subsetOf, apart, disjointFrom, some, only, without}
+use Rattle.sets.proofs.Gather.{member-gather, member-gather-past, gather-member}
+use Rattle.sets.proofs.Members.{member-zero, member-and, member-or}
 
 -- ---- the set of what passes a test
 
@@ -48,6 +49,32 @@ meet-e a b e =
     let m = not-false (member a (t .0) && member b (t .0)) (t .2) in
     (t .0, t .1, and-l (member a (t .0)) _ m, and-r (member a (t .0)) _ m)
 
+-- ---- members of a set made from two
+
+module _ (a b i : ℕ) where
+  pub both-e : member (bitAnd a b) i ≡ true → (member a i ≡ true) × (member b i ≡ true)
+  both-e e = let t = sym (member-and a b i) ∙ e in (and-l (member a i) _ t, and-r (member a i) _ t)
+
+  pub both-i : member a i ≡ true → member b i ≡ true → member (bitAnd a b) i ≡ true
+  both-i p q = member-and a b i ∙ (p & q)
+
+  pub either-e : member (bitOr a b) i ≡ true → (member a i ≡ true) ⊎ (member b i ≡ true)
+  either-e e = or-cases (member a i) (member b i) (sym (member-or a b i) ∙ e)
+
+  pub either-l : member a i ≡ true → member (bitOr a b) i ≡ true
+  either-l p = member-or a b i ∙ or-l (member a i) (member b i) p
+
+  pub either-r : member b i ≡ true → member (bitOr a b) i ≡ true
+  either-r p = member-or a b i ∙ or-r (member a i) (member b i) p
+
+  pub without-e : member (without a b) i ≡ true → (i < 64) × (member a i ≡ true) × (member b i ≡ false)
+  unfolding without only
+  without-e e = let t = gather-e (only a b) 64 i e in (t .0, and-l (member a i) _ (t .1), not-true (member b i) (and-r (member a i) _ (t .1)))
+
+  pub without-i : i < 64 → member a i ≡ true → member b i ≡ false → member (without a b) i ≡ true
+  unfolding without only
+  without-i h p q = gather-i (only a b) 64 i h (p & not-i _ q)
+
 -- ---- not empty
 
 pub some-i : (s i : ℕ) → member s i ≡ true → some s ≡ true
@@ -61,6 +88,9 @@ some-e f (suc n) e = elim (which (f n)) [
   | inl p ↦ (n, le-refl (suc n), p)
   | inr p ↦ (let t = some-e f n (rw (p, zero-mul, zero-add) at e) in (t .0, omega arith, t .2))
 ]
+
+pub some-member : (s : ℕ) → s < 2 ^ 64 → some s ≡ true → (i : ℕ) × (member s i ≡ true)
+some-member s h e = let t = some-e (member s) 64 (ap some (gather-member 64 s h) ∙ e) in (t .0, t .2)
 
 -- an empty set has no member
 pub some-n : (f : ℕ → Bool) (n i : ℕ) → some (gather f n) ≡ false → i < n → f i ≡ false

@@ -1,122 +1,142 @@
--- Each sentence of soundness as work on whole sets.
+-- The tests of soundness at the exits of their code.
 -- Assumes nothing.
-use mathlib.Core.Path.{_≡_, sym, ap, ap₂, _∙_}
-use mathlib.Core.Logic.{_≢_}
-use mathlib.Core.Bool.{Bool, true, not, _&&_, _||_, cond}
+use mathlib.Core.Path.{_≡_, refl, sym, ap, _∙_}
+use mathlib.Core.Logic.{_≢_, inl, inr}
+use mathlib.Core.Bool.{Bool, true, false, not, _&&_, _||_}
 use mathlib.Core.List.{List}
-use Prim.Native.Nat.{ℕ, _-_, _≤_, _<_}
+use Prim.Native.Nat.{ℕ, zero, suc, _+_, _-_, _≤_, _<_}
 use native.Mathlib.Omega.{arith}
-use borrow.Author.Tests.{le-leb, lt-leb, eq-eqb, ne-eqb}
+use borrow.Author.Tests.{le-leb, lt-leb, eq-eqb, ne-eqb, eqb-true, not-true}
 use lib.Dec.{eqb, leb}
-use lib.Bits.{bitAnd, bitOr}
 use lib.ListN.{getD}
-use Rattle.bounded.specs.Bounded.{imp, any}
-use Rattle.bounded.proofs.Bools.{_&_, or-l, or-go, or-imp}
-use Rattle.sets.specs.Sets.{member, gather, without, subsetOf, some}
-use Rattle.sets.proofs.Members.{member-unless}
-use Rattle.sets.proofs.Gather.{member-gather}
-use Rattle.sets.proofs.Operations.{member-without}
-use Rattle.sets.proofs.Whole.{gather-and, gather-or, gather-without, any-gather, subset-all}
+use lib.Bits.{bitAnd, bitOr, or-add-and, and-le-l, and-le-r}
+use Rattle.bounded.specs.Bounded.{imp, all}
+use Rattle.bounded.proofs.Bools.{_&_, and-l, and-r, and-no-l, and-no-r, off, clash, imp-e, imp-i, not-i, or-l, or-r, same-test, split?, went, and-true}
+use Rattle.bounded.proofs.Tests.{all-i, all-e, all-suc}
+use Rattle.sets.specs.Sets.{without, subsetOf, some}
+use Rattle.sets.proofs.Facts.{some-on, some-off}
 use Rattle.verdict.specs.declared.Network.{Network}
-use Rattle.verdict.specs.Network.{wayOf, inWay, firm, exposed, returnable}
+use Rattle.standing.specs.Standing.{free, returning, codeIs}
+use Rattle.standing.specs.Ways.{preceding, lostIn, liveAt}
+use Rattle.standing.specs.declared.Standing.{Standing}
+use Rattle.standing.proofs.Facts.{is-e}
 use Rattle.run.specs.declared.Run.{Run}
-use Rattle.run.specs.State.{is, coded}
-use Rattle.run.specs.Orders.{ready}
-use Rattle.run.specs.Sound.{founded, allFounded, lostExposed, requestedInside, mayReturn, returningOutside, leaving, quiet, firmInside, pending, lostPending}
-use Rattle.run.proofs.Codes.{held-firm-is}
-
--- a code of the array is at most 4
-unfoldable pub knownIn : List ℕ → ℕ → Bool
-knownIn codes b = leb (getD codes b 0) 4
+use Rattle.run.specs.State.{code, is}
+use Rattle.run.specs.Sound.{codeKnown, codesKnown, wayKnown, zeroPast, restZero, quiet, waysBefore, passedOver, earlierDead, lostPending}
 
 -- ---- bytes past n
 
 -- a byte of the array is zero if it stands past n
 unfoldable pub pastIn : List ℕ → ℕ → ℕ → Bool
-pastIn codes n b = imp (leb n b) (eqb (getD codes b 0) 0)
+pastIn codes n b = imp (leb n b) (codeIs codes free b)
 
-pub past-before : (codes : List ℕ) (n b : ℕ) → b < n → pastIn codes n b ≡ true
-unfolding pastIn
-past-before codes n b h = rw (lt-leb n b h)
+zero-both : (a b : ℕ) → eqb (bitOr a b) 0 ≡ eqb a 0 && eqb b 0
+zero-both a b =
+    same-test (eqb (bitOr a b) 0) (eqb a 0 && eqb b 0)
+    (λ e. let z = eqb-true (bitOr a b) 0 e in
+    eq-eqb a 0 (omega (arith, or-add-and a b, and-le-r a b)) & eq-eqb b 0 (omega (arith, or-add-and a b, and-le-l a b)))
+    (λ e. let p = eqb-true a 0 (and-l (eqb a 0) _ e) in
+    let q = eqb-true b 0 (and-r (eqb a 0) _ e) in
+    eq-eqb (bitOr a b) 0 (omega (arith, or-add-and a b)))
 
-pub past-at : (codes : List ℕ) (n b : ℕ) → n ≤ b → eqb (getD codes b 0) 0 ≡ pastIn codes n b
-unfolding pastIn
-past-at codes n b h = rw (le-leb n b h)
+module _ (codes : List ℕ) (n : ℕ) where
+  -- nothing past n is seen before it
+  pub none-seen : true ≡ all (pastIn codes n) n
+  unfolding pastIn
+  none-seen = sym (all-i (pastIn codes n) n (λ b h. rw (lt-leb n b h)))
 
--- ---- the rest, where n is at most 64
+  -- what is seen, with byte b
+  pub seen-more : (seen x b : ℕ) → n ≤ b → eqb x 0 ≡ codeIs codes free b → eqb seen 0 ≡ all (pastIn codes n) b → eqb (bitOr seen x) 0 ≡ all (pastIn codes n) (b + 1)
+  unfolding pastIn
+  seen-more seen x b h e p = zero-both seen x ∙ sym (all-suc (pastIn codes n) b ∙ rw (le-leb n b h, ← e, ← p))
 
--- the sets that the sentences look at: requested, held, lost, returning, ready, and the current way
-pub record Sets-of (g : Network) (r : Run) (q h l b y w : ℕ) : Type 0 where
-  pub small : g .n ≤ 64
-  pub requests : q ≡ gather (is r 1) (g .n)
-  pub holds : h ≡ gather (is r 2) (g .n)
-  pub loses : l ≡ gather (is r 3) (g .n)
-  pub returns : b ≡ gather (is r 4) (g .n)
-  pub readies : y ≡ gather (ready g r) (g .n)
-  pub here : w ≡ wayOf g (r .way)
+-- known codes below n are enough where the rest is zero
+known-all : (g : Network) (r : Run) → g .n ≤ 64 → restZero g r ≡ true → all (codeKnown r) (g .n) ≡ codesKnown r
+unfolding restZero zeroPast codesKnown codeKnown code
+known-all g r small z =
+    same-test (all (codeKnown r) (g .n)) (all (codeKnown r) 64)
+    (λ e. all-i (codeKnown r) 64 (λ b h. elim (split? b (g .n)) [
+      | inl l ↦ all-e (codeKnown r) (g .n) e b l
+      | inr l ↦ le-leb (getD (r .code) b 0) returning (omega (arith, is-e (r .code) free b (imp-e (leb (g .n) b) _ (all-e (zeroPast g r) 64 z b h) (le-leb _ _ l))))
+    ]))
+    (λ e. all-i (codeKnown r) (g .n) (λ b h. all-e (codeKnown r) 64 e b (omega arith)))
 
-module _ {g : Network} {r : Run} {q h l b y w : ℕ} (s : Sets-of g r q h l b y w) where
-  ready-at : (i : ℕ) → i < g .n → member y i ≡ ready g r i
-  ready-at i k = ap (λ (x : ℕ). member x i) (s .readies) ∙ member-gather (ready g r) (g .n) i k
+-- a state is formed: the way, then the bytes past n, then the codes
+module _ (g : Network) (r : Run) where
+  pub way-unknown : g .a < r .way → false ≡ codesKnown r && (wayKnown g r && restZero g r)
+  unfolding wayKnown
+  way-unknown h = sym (and-no-r (codesKnown r) _ (and-no-l (wayKnown g r) _ (lt-leb (r .way) (g .a) h)))
 
-  pub founded-is : subsetOf (bitOr q (bitOr h b)) y ≡ allFounded g r
-  unfolding allFounded founded
-  founded-is =
-      subset-all (λ i. is r 1 i || (is r 2 i || is r 4 i)) (ready g r) (g .n) (bitOr q (bitOr h b)) y (s .small)
-      (ap₂ bitOr (s .requests) (ap₂ bitOr (s .holds) (s .returns) ∙ gather-or (is r 2) (is r 4) (g .n)) ∙ gather-or (is r 1) (λ i. is r 2 i || is r 4 i) (g .n))
-      ready-at
+  module _ (x : Bool) (ex : x ≡ restZero g r) where
+    pub rest-used : not x ≡ true → false ≡ codesKnown r && (wayKnown g r && restZero g r)
+    rest-used n = sym (and-no-r (codesKnown r) _ (and-no-r (wayKnown g r) _ (sym ex ∙ not-true x n)))
 
-  pub exposed-is : subsetOf l (g .exposed) ≡ lostExposed g r
-  unfolding lostExposed coded
-  exposed-is = ap (λ (x : ℕ). subsetOf x (g .exposed)) (s .loses)
+    pub formed-by : g .n ≤ 64 → r .way ≤ g .a → not x ≡ false → (y : Bool) → y ≡ all (codeKnown r) (g .n) → y ≡ codesKnown r && (wayKnown g r && restZero g r)
+    unfolding wayKnown
+    formed-by small h n y ey =
+        let z = went ex n in
+        ey ∙ known-all g r small z ∙ sym (and-true (codesKnown r)) ∙ ap (λ (t : Bool). codesKnown r && t) (sym (le-leb (r .way) (g .a) h & z))
 
-  pub requested-is : subsetOf q w ≡ requestedInside g r
-  unfolding requestedInside coded
-  requested-is = ap₂ subsetOf (s .requests) (s .here)
+-- ---- a held booking outside the current way, or a returning one
 
-  pub returning-is : subsetOf b (without (without (g .exposed) (g .firm)) w) ≡ returningOutside g r
-  unfolding returningOutside mayReturn returnable exposed firm inWay
-  returning-is =
-      subset-all (is r 4) (λ i. (member (g .exposed) i && not (member (g .firm) i)) && not (member (wayOf g (r .way)) i)) (g .n) b _ (s .small) (s .returns)
-      (λ i k. ap (λ (x : ℕ). member (without (without (g .exposed) (g .firm)) x) i) (s .here)
-      ∙ member-without (without (g .exposed) (g .firm)) (wayOf g (r .way)) i (omega (arith, s .small))
-      ∙ ap (λ (t : Bool). t && not (member (wayOf g (r .way)) i)) (member-without (g .exposed) (g .firm) i (omega (arith, s .small))))
+not-imp : (b : Bool) → b ≡ imp (not b) false
+not-imp true = refl
+not-imp false = refl
 
-  -- what is on its way out
-  leaving-set : any (leaving g r) (g .n) ≡ some (bitOr (without h w) b)
-  unfolding leaving inWay
-  leaving-set =
-      any-gather (leaving g r) (g .n)
-      ∙ ap some
-      (sym (gather-or (λ i. is r 2 i && not (member (wayOf g (r .way)) i)) (is r 4) (g .n))
-      ∙ ap₂ bitOr (sym (gather-without (is r 2) (g .n) (wayOf g (r .way)) (s .small)) ∙ ap₂ without (sym (s .holds)) (sym (s .here))) (sym (s .returns)))
+module _ (s : Standing) (way : ℕ) where
+  pub quiet-none : s .requested ≡ 0 → true ≡ quiet s way
+  unfolding quiet some
+  quiet-none z = sym (imp-i (some (without (s .held) way) || some (s .returning)) (not (some (s .requested))) (λ e. ap not (some-off (s .requested) (s .requested) refl z)))
 
-  pub quiet-is : eqb (bitOr (without h w) b) 0 || eqb q 0 ≡ quiet g r
-  unfolding quiet some coded
-  quiet-is = rw (leaving-set, ← (s .requests)) (or-imp (eqb (bitOr (without h w) b) 0) (eqb q 0))
+  module _ (d : s .requested ≢ 0) (m : ℕ) (em : m ≡ without (s .held) way) where
+    asked : some (s .requested) ≡ true
+    asked = some-on (s .requested) (s .requested) refl d
 
-  pub firm-is : subsetOf (bitAnd h (g .firm)) w ≡ firmInside g r
-  unfolding firmInside
-  firm-is = ap₂ subsetOf (held-firm-is g r h (s .holds)) (s .here)
+    pub quiet-outside : m ≢ 0 → false ≡ quiet s way
+    unfolding quiet
+    quiet-outside n = rw (some-on m (without (s .held) way) em n, asked)
 
-  pub pending-is : subsetOf (bitAnd l w) (cond (eqb q 0) 0 y) ≡ lostPending g r
-  unfolding lostPending pending some coded inWay
-  pending-is =
-      subset-all (λ i. is r 3 i && member (wayOf g (r .way)) i) (λ i. ready g r i && not (eqb (gather (is r 1) (g .n)) 0)) (g .n) (bitAnd l w) _ (s .small)
-      (ap₂ bitAnd (s .loses) (s .here) ∙ gather-and (is r 3) (g .n) (wayOf g (r .way)))
-      (λ i k. member-unless (eqb q 0) y i (ready g r i) (ready-at i k) ∙ ap (λ (x : ℕ). ready g r i && not (eqb x 0)) (s .requests))
+    pub quiet-returning : m ≡ 0 → eqb (s .returning) 0 ≡ quiet s way
+    unfolding quiet some
+    quiet-returning z = rw (some-off m (without (s .held) way) em z, asked) (not-imp (eqb (s .returning) 0))
 
--- ---- the exits of the tests over sets
+-- ---- a lost booking in the current way
 
-module _ (h w b q m : ℕ) (em : m ≡ without h w) where
-  pub quiet-none : bitOr m b ≡ 0 → true ≡ eqb (bitOr (without h w) b) 0 || eqb q 0
-  quiet-none z = sym (or-l _ _ (eq-eqb (bitOr (without h w) b) 0 (ap (λ (x : ℕ). bitOr x b) (sym em) ∙ z)))
+module _ (g : Network) (s : Standing) (way p : ℕ) (ep : p ≡ preceding g (bitAnd (s .lost) way)) (x : Bool) (ex : x ≡ subsetOf p (s .held)) where
+  based : x ≡ subsetOf (preceding g (bitAnd (s .lost) way)) (s .held)
+  based = ex ∙ ap (λ (t : ℕ). subsetOf t (s .held)) ep
 
-  pub quiet-some : bitOr m b ≢ 0 → eqb q 0 ≡ eqb (bitOr (without h w) b) 0 || eqb q 0
-  quiet-some d = or-go _ _ (ne-eqb (bitOr (without h w) b) 0 (λ z. d (ap (λ (x : ℕ). bitOr x b) em ∙ z)))
+  pub pending-loose : not x ≡ true → false ≡ lostPending g s way
+  unfolding lostPending
+  pending-loose n = sym (and-no-l _ _ (sym based ∙ not-true x n))
 
-pub pending-none : (s q y : ℕ) → q ≡ 0 → subsetOf s 0 ≡ subsetOf s (cond (eqb q 0) 0 y)
-pending-none s q y z = rw (eq-eqb q 0 z)
+  pub pending-asked : not x ≡ false → lostIn s way ≡ true → not (eqb (s .requested) 0) ≡ lostPending g s way
+  unfolding lostPending some
+  pending-asked n l = rw (went based n, l)
 
-pub pending-some : (s q y : ℕ) → q ≢ 0 → subsetOf s y ≡ subsetOf s (cond (eqb q 0) 0 y)
-pending-some s q y d = rw (ne-eqb q 0 d)
+  pub pending-none : not x ≡ false → lostIn s way ≡ false → true ≡ lostPending g s way
+  unfolding lostPending
+  pending-none n l = rw (went based n, l)
+
+-- ---- the ways before the current one
+
+pub way-before : (g : Network) (w : ℕ) → w ≢ 0 → w - 1 ≡ waysBefore g w
+unfolding waysBefore
+way-before g zero d = absurd (d refl)
+way-before g (suc k) d = omega arith
+
+pub before-few : (g : Network) (w e : ℕ) → g .a ≤ 16 → w ≤ 16 → e ≡ waysBefore g w → e ≤ 16
+unfolding waysBefore
+before-few g zero e ha hw p = omega arith
+before-few g (suc k) e ha hw p = omega arith
+
+module _ (g : Network) (s : Standing) (w e : ℕ) (ee : e ≡ waysBefore g w) where
+  pub earlier-live : (k : ℕ) → k < e → liveAt g s k ≡ true → false ≡ earlierDead g s w
+  unfolding earlierDead passedOver
+  earlier-live k h t =
+      sym (off (all (passedOver g s) (waysBefore g w))
+      (λ a. clash (liveAt g s k) t (not-true (liveAt g s k) (all-e (passedOver g s) (waysBefore g w) a k (omega arith)))))
+
+  pub earlier-none : (k : ℕ) → ((j : ℕ) → j < k → liveAt g s j ≡ false) → e ≤ k → true ≡ earlierDead g s w
+  unfolding earlierDead passedOver
+  earlier-none k f h = sym (all-i (passedOver g s) (waysBefore g w) (λ j b. not-i (liveAt g s j) (f j (omega arith))))

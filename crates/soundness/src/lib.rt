@@ -1,32 +1,25 @@
-// Whether a state is sound: a test for each sentence of the rule, on whole sets of bookings. The sentences are defined in crate run.
+// Whether a state is sound: a test for each sentence of the rule, on how the bookings stand. The sentences are defined in crate run.
 use run::Run;
+use standing::Standing;
 use verdict::Network;
 ghost use mathlib.Core.Path.{_≡_};
-ghost use mathlib.Core.Bool.{_&&_, _||_, cond};
+ghost use mathlib.Core.Bool.{_&&_};
 ghost use Prim.Native.Nat.{_≤_};
-ghost use lib.Dec.{eqb};
-ghost use lib.Bits.{bitAnd, bitOr};
-ghost use Rattle.sets.specs.Sets.{without, subsetOf};
-ghost use Rattle.run.specs.Sound.{codesKnown, wayKnown, restZero, waysBefore, earlierDead, sound};
+ghost use Rattle.bounded.specs.Bounded.{all};
+ghost use Rattle.run.specs.State.{standing};
+ghost use Rattle.run.specs.Sound.{codeKnown, codesKnown, wayKnown, restZero, allFounded, returningOutside, quiet, waysBefore, earlierDead, lostPending, sound};
 
-// Codes are at most 4.
-fn codes_known(r: Run) -> bool
-    ensures { λ t. ⌜ t ≡ codesKnown r ⌝ }
+// The first n codes are at most 4.
+fn codes_known(r: Run, n: usize) -> bool
+    requires { ⌜ n ≤ 64 ⌝ }
+    ensures { λ t. ⌜ t ≡ all (codeKnown r) n ⌝ }
 {
-    let code = r.code;
-    for b in 0..64 {
-        if code[b] > 4 {
+    for b in 0..n {
+        if r.code[b] > standing::RETURNING {
             return false;
         }
     }
     true
-}
-
-// The way is at most a.
-fn way_known(g: Network, r: Run) -> bool
-    ensures { λ t. ⌜ t ≡ wayKnown g r ⌝ }
-{
-    r.way as usize <= g.a
 }
 
 // Bytes past n are zero.
@@ -34,13 +27,11 @@ fn rest_zero(g: Network, r: Run) -> bool
     requires { ⌜ g .n ≤ 64 ⌝ }
     ensures { λ t. ⌜ t ≡ restZero g r ⌝ }
 {
-    let code = r.code;
+    let mut seen: u8 = 0;
     for b in g.n..64 {
-        if code[b] != 0 {
-            return false;
-        }
+        seen = seen | r.code[b];
     }
-    true
+    seen == 0
 }
 
 // What a state must be before its sets are looked at: known codes, a known way, and nothing past n.
@@ -48,49 +39,45 @@ fn is_formed(g: Network, r: Run) -> bool
     requires { ⌜ g .n ≤ 64 ⌝ }
     ensures { λ t. ⌜ t ≡ (codesKnown r && (wayKnown g r && restZero g r)) ⌝ }
 {
-    if !codes_known(r) {
+    if r.way as usize > g.a {
         return false;
     }
-    if !way_known(g, r) {
+    if !rest_zero(g, r) {
         return false;
     }
-    rest_zero(g, r)
+    codes_known(r, g.n)
 }
 
 // Requested, held and returning bookings have all predecessors held.
-fn all_founded(requested: u64, held: u64, returning: u64, ready: u64) -> bool
-    ensures { λ t. ⌜ t ≡ subsetOf (bitOr requested (bitOr held returning)) ready ⌝ }
+fn all_founded(g: Network, s: Standing) -> bool
+    requires { ⌜ g .n ≤ 64 ⌝ }
+    ensures { λ t. ⌜ t ≡ allFounded g s ⌝ }
 {
-    sets::subset(requested | (held | returning), ready)
+    let active = s.requested | (s.held | s.returning);
+    sets::subset(standing::preceding(g, active), s.held)
 }
 
-// Returning ones are C and outside the current way.
-fn returning_outside(returning: u64, exposed: u64, firm: u64, here: u64) -> bool
-    ensures { λ t. ⌜ t ≡ subsetOf returning (without (without exposed firm) here) ⌝ }
+// Returning ones are C, so exposed and not firm, and outside the current way.
+fn returning_outside(g: Network, s: Standing, way: u64) -> bool
+    ensures { λ t. ⌜ t ≡ returningOutside g s way ⌝ }
 {
-    sets::subset(returning, sets::minus(sets::minus(exposed, firm), here))
+    sets::subset(
+        s.returning,
+        sets::minus(sets::minus(g.exposed, g.firm), way),
+    )
 }
 
 // A held booking outside the current way, or a returning one, means none is requested.
-fn quiet(held: u64, returning: u64, requested: u64, here: u64) -> bool
-    ensures { λ t. ⌜ t ≡ (eqb (bitOr (without held here) returning) 0 || eqb requested 0) ⌝ }
+fn quiet(s: Standing, way: u64) -> bool
+    ensures { λ t. ⌜ t ≡ quiet s way ⌝ }
 {
-    let leaving = sets::minus(held, here) | returning;
-    if leaving == 0 {
+    if s.requested == 0 {
         return true;
     }
-    requested == 0
-}
-
-// A lost booking in the current way has its predecessors held, and something is requested.
-fn lost_pending(lost: u64, requested: u64, ready: u64, here: u64) -> bool
-    ensures { λ t. ⌜ t ≡ subsetOf (bitAnd lost here) (cond (eqb requested 0) 0 ready) ⌝ }
-{
-    let gone = lost & here;
-    if requested == 0 {
-        return sets::subset(gone, 0);
+    if sets::minus(s.held, way) != 0 {
+        return false;
     }
-    sets::subset(gone, ready)
+    s.returning == 0
 }
 
 // How many ways stand before way w: all for 0.
@@ -103,60 +90,66 @@ fn ways_before(g: Network, w: usize) -> usize
     w - 1
 }
 
-// Every way before the current one (all ways, for 0) is not live.
-fn earlier_dead(g: Network, r: Run) -> bool
-    requires { ⌜ (g .n ≤ 64) × (g .a ≤ 16) × (r .way ≤ 16) ⌝ }
-    ensures { λ t. ⌜ t ≡ earlierDead g r ⌝ }
+// Every way before way w (all ways, for 0) is not live.
+fn earlier_dead(g: Network, s: Standing, w: usize) -> bool
+    requires { ⌜ (g .a ≤ 16) × (w ≤ 16) ⌝ }
+    ensures { λ t. ⌜ t ≡ earlierDead g s w ⌝ }
 {
-    let lost = r.coded(g.n, 3);
-    let firm = r.held_firm(g);
-    let ways = g.way;
-    let end = ways_before(g, r.way as usize);
+    let end = ways_before(g, w);
     for k in 0..end {
-        if run::is_live(ways[k], lost, firm) {
+        if s.is_live(g, g.way[k]) {
             return false;
         }
     }
     true
 }
 
-// Whether the state is sound.
-pub fn is_sound(g: Network, r: Run) -> bool
-    requires { ⌜ (g .n ≤ 64) × (g .a ≤ 16) ⌝ }
+// A lost booking in the current way has its predecessors held, and something is requested.
+fn lost_pending(g: Network, s: Standing, way: u64) -> bool
+    requires { ⌜ g .n ≤ 64 ⌝ }
+    ensures { λ t. ⌜ t ≡ lostPending g s way ⌝ }
+{
+    if !sets::subset(standing::preceding(g, s.lost & way), s.held) {
+        return false;
+    }
+    if s.lost_in(way) {
+        return s.requested != 0;
+    }
+    true
+}
+
+// Whether the state is sound; s is how its bookings stand.
+pub fn is_sound(g: Network, r: Run, s: Standing) -> bool
+    requires { ⌜ (g .n ≤ 64) × (g .a ≤ 16) × (s ≡ standing g r) ⌝ }
     ensures { λ t. ⌜ t ≡ sound g r ⌝ }
 {
     if !is_formed(g, r) {
         return false;
     }
-    let requested = r.coded(g.n, 1);
-    let held = r.coded(g.n, 2);
-    let lost = r.coded(g.n, 3);
-    let returning = r.coded(g.n, 4);
-    let ready = r.ready(g);
-    let here = run::way_of(g, r.way as usize);
-    if !all_founded(requested, held, returning, ready) {
+    let way = standing::way_of(g, r.way as usize);
+    if !all_founded(g, s) {
         return false;
     }
     // Lost ones are exposed.
-    if !sets::subset(lost, g.exposed) {
+    if !sets::subset(s.lost, g.exposed) {
         return false;
     }
     // Requested ones are in the current way.
-    if !sets::subset(requested, here) {
+    if !sets::subset(s.requested, way) {
         return false;
     }
-    if !returning_outside(returning, g.exposed, g.firm, here) {
+    if !returning_outside(g, s, way) {
         return false;
     }
-    if !quiet(held, returning, requested, here) {
+    if !quiet(s, way) {
         return false;
     }
-    if !earlier_dead(g, r) {
+    if !earlier_dead(g, s, r.way as usize) {
         return false;
     }
     // Held firm bookings are in the current way (none for 0).
-    if !sets::subset(held & g.firm, here) {
+    if !sets::subset(s.held & g.firm, way) {
         return false;
     }
-    lost_pending(lost, requested, ready, here)
+    lost_pending(g, s, way)
 }

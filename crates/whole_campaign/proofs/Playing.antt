@@ -13,10 +13,10 @@ use Rattle.run.specs.State.{start}
 use Rattle.run.specs.Bytes.{bytesOf}
 use Rattle.guarantee.specs.Answers.{pack}
 use Rattle.guarantee.specs.Machine.{Asked, nextOrder, replied}
-use Rattle.campaign.specs.Calls.{startCall, askedCall, askedLeaves}
+use Rattle.calls.specs.Calls.{startCall, askedCall, askedLeaves}
 use Rattle.whole_campaign.specs.Lists.{answersOn, statesOn}
 use Rattle.whole_campaign.specs.Play.{wordAt, wordText, askAt, asksFrom, asksIn, recorded, recordOf, roomy, playCall, playLeaves}
-use Rattle.campaign.proofs.FirstAnswer.{low-refused, high-passes, accepted-is}
+use Rattle.calls.proofs.FirstAnswer.{low-refused, high-passes, accepted-is}
 
 -- ---- a call by its bytes
 

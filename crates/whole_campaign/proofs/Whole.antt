@@ -22,7 +22,7 @@ use Rattle.guarantee.specs.Calls.{callBits, callBytes, answers, states, left, a
 use Rattle.guarantee.specs.Counted.{ends, waySize, waySizes}
 use Rattle.guarantee.specs.Guarantee.{Guarantee}
 use Rattle.guarantee.proofs.Plans.{plan-campaign}
-use Rattle.campaign.specs.Calls.{networkIn, passes, sheetPasses, startLeaves, askedCall, askedLeaves}
+use Rattle.calls.specs.Calls.{networkIn, passes, sheetPasses, startLeaves, askedCall, askedLeaves}
 use Rattle.whole_campaign.specs.Lists.{answersOn, statesOn, leftOn}
 use Rattle.whole_campaign.specs.Whole.{WholeCampaign}
 

@@ -5,7 +5,7 @@
 use mathlib.Core.List.{List, [], _∷_}
 use Prim.Native.Nat.{ℕ}
 use Rattle.guarantee.specs.Machine.{Asked}
-use Rattle.campaign.specs.Calls.{askedCall, askedLeaves}
+use Rattle.calls.specs.Calls.{askedCall, askedLeaves}
 
 -- the answers to a list of calls
 unfoldable pub answersOn : List ℕ → List ℕ → List Asked → List ℕ

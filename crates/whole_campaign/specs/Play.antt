@@ -12,7 +12,7 @@ use Rattle.run.specs.State.{start}
 use Rattle.run.specs.Bytes.{bytesOf}
 use Rattle.guarantee.specs.Answers.{pack}
 use Rattle.guarantee.specs.Machine.{Asked, nextOrder, replied}
-use Rattle.campaign.specs.Calls.{sheetPasses, checkCall}
+use Rattle.calls.specs.Calls.{sheetPasses, checkCall}
 use Rattle.whole_campaign.specs.Lists.{answersOn, statesOn}
 
 -- 32 bits at a place, high byte first, and as bytes

@@ -14,7 +14,7 @@ use Rattle.run.specs.Bytes.{bytesOf}
 use Rattle.guarantee.specs.Machine.{Asked, nextOrder, machineAnswers, machineStates}
 use Rattle.guarantee.specs.Counted.{ends, waySizes}
 use Rattle.guarantee.specs.Demand.{Demand3, SemiAtomic}
-use Rattle.campaign.specs.Calls.{networkIn, askedCall}
+use Rattle.calls.specs.Calls.{networkIn, askedCall}
 use Rattle.whole_campaign.specs.Lists.{answersOn, statesOn, leftOn}
 
 pub record WholeCampaign (s bs : List ℕ) (qs : List Asked) : Type 0 where

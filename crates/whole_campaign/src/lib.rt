@@ -9,7 +9,7 @@ ghost use lib.Seq.{sets};
 ghost use Rattle.run.specs.State.{start};
 ghost use Rattle.run.specs.Bytes.{bytesOf};
 ghost use Rattle.guarantee.specs.Answers.{pack};
-ghost use Rattle.campaign.specs.Calls.{sheetPasses, askedCall, askedLeaves};
+ghost use Rattle.calls.specs.Calls.{sheetPasses, askedCall, askedLeaves};
 ghost use Rattle.whole_campaign.specs.Whole.{WholeCampaign};
 ghost use Rattle.whole_campaign.specs.Play.{wordAt, wordText, askAt, asksIn, playCall, playLeaves};
 

@@ -1,16 +1,25 @@
 -- `soundness::lost_pending` meets its contract.
 -- Assumes nothing.
-use mathlib.Core.Path.{_∙_}
-use Rattle.soundness.proofs.Tests.{pending-none, pending-some}
 use borrow.Author.Needs.{needs}
+use Rattle.bounded.proofs.Bools.{got}
+use Rattle.soundness.proofs.Tests.{pending-loose, pending-asked, pending-none}
 use Rattle.soundness.proofs.lost_pending.Statement.{statement}
 use Rattle.soundness.proofs.lost_pending.Tie as tie
 
 returns : tie.Need-returns
-returns c = c .subset .ensures ∙ pending-none _ _ _ (c .before .if1 .taken)
+returns c = pending-loose _ _ _ _ (c .before .before .preceding .ensures) _ (c .before .subset .ensures) (c .if1 .taken)
 
 returns-2 : tie.Need-returns-2
-returns-2 c = c .subset2 .ensures ∙ pending-some _ _ _ (c .before .if1 .left)
+returns-2 c =
+    let l = c .before .before in
+    let s = l .before .before in
+    pending-asked _ _ _ _ (s .before .preceding .ensures) _ (s .subset .ensures) (l .before .if1 .left) (got (l .lost-in .ensures) (c .before .if2 .taken))
+
+returns-3 : tie.Need-returns-3
+returns-3 c =
+    let l = c .before in
+    let s = l .before .before in
+    pending-none _ _ _ _ (s .before .preceding .ensures) _ (s .subset .ensures) (l .before .if1 .left) (got (l .lost-in .ensures) (c .if2 .left))
 
 pub lost-pending-spec : {M : Type 1} → statement M
-lost-pending-spec = tie.close (tie.spec (search needs) returns (search needs) returns-2)
+lost-pending-spec = tie.close (tie.spec (search needs) (search needs) returns (search needs) returns-2 returns-3)

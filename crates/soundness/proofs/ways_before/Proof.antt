@@ -2,7 +2,7 @@
 -- Assumes nothing.
 use borrow.Author.Needs.{needs}
 use Rattle.run.specs.Sound.{waysBefore}
-use Rattle.run.proofs.Codes.{way-before}
+use Rattle.soundness.proofs.Tests.{way-before}
 use Rattle.soundness.proofs.ways_before.Statement.{statement}
 use Rattle.soundness.proofs.ways_before.Tie as tie
 

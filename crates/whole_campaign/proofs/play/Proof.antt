@@ -9,7 +9,7 @@ use Prim.Native.Nat.{ℕ, _*_, _-_, _≤_, _/_}
 use lib.ListN.{length}
 use lib.Seq.{sets}
 use Rattle.whole_campaign.specs.Play.{asksFrom, asksIn, recordOf}
-use Rattle.campaign.proofs.FirstAnswer.{started-is}
+use Rattle.calls.proofs.FirstAnswer.{started-is}
 use Rattle.whole_campaign.proofs.Playing.{rest, play-turn, play-end, refused-answer, no-room, played}
 use Rattle.whole_campaign.proofs.Whole.{from-start}
 use Rattle.whole_campaign.proofs.play.Statement.{statement}

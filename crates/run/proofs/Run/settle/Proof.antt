@@ -7,17 +7,21 @@ use Rattle.run.proofs.Run.settle.Statement.{statement}
 use Rattle.run.proofs.Run.settle.Tie as tie
 
 returns : tie.Need-returns
-returns c = settle-wait _ _ _ (c .before .coded .ensures) (c .if1 .taken)
+returns c = settle-wait _ _ _ (c .before .pre .2) (c .if1 .taken)
 
 returns-2 : tie.Need-returns-2
 returns-2 c =
     let l = c .before .before .before in
-    settle-turn _ _ _ (l .before .before .before .coded .ensures) (l .before .before .if1 .left) (got (l .lost-in .ensures) (c .before .before .if2 .taken)) _ (c .first-live .ensures)
+    let w = l .before in
+    let z = w .before .before in
+    settle-turn _ _ _ (z .before .pre .2) (z .if1 .left) _ (w .way-of .ensures) (got (l .lost-in .ensures) (c .before .before .if2 .taken)) _ (c .first-live .ensures)
 
 returns-3 : tie.Need-returns-3
 returns-3 c =
     let l = c .before in
-    settle-stay _ _ _ (l .before .before .before .coded .ensures) (l .before .before .if1 .left) (got (l .lost-in .ensures) (c .if2 .left))
+    let w = l .before in
+    let z = w .before .before in
+    settle-stay _ _ _ (z .before .pre .2) (z .if1 .left) _ (w .way-of .ensures) (got (l .lost-in .ensures) (c .if2 .left))
 
 pub settle-spec : {M : Type 1} → statement M
-settle-spec = tie.close (tie.spec (search needs) returns (search needs) (search needs) (search needs) returns-2 returns-3)
+settle-spec = tie.close (tie.spec returns (search needs) (search needs) (search needs) (search needs) returns-2 returns-3)

@@ -1,0 +1,4 @@
+-- The laws of crate `calls`.
+pub mod Places
+pub mod Exits
+pub mod FirstAnswer

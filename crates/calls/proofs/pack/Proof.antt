@@ -1,0 +1,15 @@
+-- `calls::pack` meets its contract.
+-- Assumes nothing.
+use mathlib.Core.Path.{refl}
+use Rattle.guarantee.specs.Answers.{pack}
+use borrow.Author.Needs.{needs}
+use Rattle.calls.proofs.pack.Statement.{statement}
+use Rattle.calls.proofs.pack.Tie as tie
+
+returns : tie.Need-returns
+unfolding pack
+returns c = refl
+
+pub pack-spec : {M : Type 1} → statement M
+pack-spec =
+    tie.close (tie.spec (search needs) (search needs) (search needs) (search needs) (search needs) returns)

@@ -1,0 +1,97 @@
+-- The four calls of the dispatcher on lent bytes: what each gives back, and what it leaves in the state.
+-- The sheet's refusals come first, then 11, then 9; a refused call leaves every byte as it was.
+-- Assumes nothing.
+use mathlib.Core.Bool.{Bool, true, false, _&&_, cond}
+use mathlib.Core.List.{List}
+use Prim.Native.Nat.{ℕ, suc}
+use lib.Dec.{eqb}
+use lib.ListN.{length, replicate}
+use Rattle.plan.specs.Judging.{isFine, judgedRefusal, judgedPlace}
+use Rattle.plan.specs.declared.Judged.{Judged}
+use Rattle.sheet.specs.Sheet.{sheetOf}
+use Rattle.verdict.specs.declared.Network.{Network}
+use Rattle.verdict.specs.declared.Verdict.{Verdict}
+use Rattle.verdict.specs.FromPlan.{networkOf}
+use Rattle.verdict.specs.Check.{check, verdictNumber}
+use Rattle.run.specs.State.{start, standing}
+use Rattle.run.specs.Bytes.{bytesOf, runOf, soundBytes}
+use Rattle.run.specs.declared.Run.{Run}
+use Rattle.run.specs.declared.Order.{Order}
+use Rattle.run.specs.declared.Order.the-variants.{Request, Return, Wait, Flown, Off}
+use Rattle.guarantee.specs.Answers.{pack, checkBits, unsound}
+use Rattle.guarantee.specs.Machine.{Asked}
+use Rattle.guarantee.specs.Calls.{callBits, callBytes}
+use Rattle.calls.specs.declared.Checked.{Checked}
+use Rattle.calls.specs.declared.Campaign.{Campaign}
+
+-- the plan that a sheet holds, as the rules see it
+unfoldable pub networkIn : List ℕ → Network
+networkIn s = networkOf (sheetOf s .plan)
+
+-- the sheet passes: refusals 1 to 8 are all absent
+unfoldable pub passes : Verdict → Bool
+passes v = eqb (verdictNumber v) 0
+
+unfoldable pub sheetPasses : List ℕ → Bool
+sheetPasses s = isFine (sheetOf s .judged) && passes (check (networkIn s))
+
+-- check: refusals 1 to 3 with their line, then 4 to 8, or accepted
+unfoldable pub judgedBits : Judged → ℕ
+judgedBits j = pack 0 (judgedRefusal j) (judgedPlace j)
+
+unfoldable pub checkCall : List ℕ → ℕ
+checkCall s = cond (isFine (sheetOf s .judged)) (checkBits (check (networkIn s))) (judgedBits (sheetOf s .judged))
+
+-- what is worked out of a sheet before anything else; a sheet that does not read has no network
+unfoldable pub noNetwork : Network
+noNetwork = record { n = 0; a = 0; way = replicate 16 0; before = replicate 64 0; firm = 0; exposed = 0 }
+
+abbrev pub judgedAs : Verdict → Network → Checked
+judgedAs v g = record { passes = passes v; bits = checkBits v; network = g }
+
+unfoldable pub checkedOf : List ℕ → Checked
+checkedOf s =
+    cond (isFine (sheetOf s .judged)) (judgedAs (check (networkIn s)) (networkIn s))
+    (record { passes = false; bits = judgedBits (sheetOf s .judged); network = noNetwork })
+
+-- start: it looks at no old byte of the state, only at how many there are
+unfoldable pub startCall : List ℕ → List ℕ → ℕ
+startCall s bs = cond (sheetPasses s) (cond (eqb (length bs) 65) (pack 6 0 0) unsound) (checkCall s)
+
+unfoldable pub startLeaves : List ℕ → List ℕ → List ℕ
+startLeaves s bs = cond (sheetPasses s && eqb (length bs) 65) (bytesOf start) bs
+
+-- next order and reply
+unfoldable pub askedCall : List ℕ → List ℕ → Asked → ℕ
+askedCall s bs q = cond (sheetPasses s) (callBits (networkIn s) bs q) (checkCall s)
+
+unfoldable pub askedLeaves : List ℕ → List ℕ → Asked → List ℕ
+askedLeaves s bs q = cond (sheetPasses s) (callBytes (networkIn s) bs q) bs
+
+-- ---- a campaign taken up: what a step needs of its sheet and its state
+
+-- the sheet passes and the state is sound
+unfoldable pub inOrder : List ℕ → List ℕ → Bool
+inOrder s bs = sheetPasses s && soundBytes (networkIn s) bs
+
+-- what is answered where they are not
+unfoldable pub refusedWith : List ℕ → ℕ
+refusedWith s = cond (sheetPasses s) unsound (checkCall s)
+
+unfoldable pub turnedAway : ℕ → Campaign
+turnedAway x = record { sound = false; bits = x; network = noNetwork; run = start; standing = record { free = 0; requested = 0; held = 0; lost = 0; returning = 0 } }
+
+-- one look at the state: its codes, and how the bookings stand by them
+abbrev pub lookedAt : Network → Run → Campaign
+lookedAt g r = record { sound = true; bits = 0; network = g; run = r; standing = standing g r }
+
+unfoldable pub takenUp : List ℕ → List ℕ → Campaign
+takenUp s bs = cond (inOrder s bs) (lookedAt (networkIn s) (runOf bs)) (turnedAway (refusedWith s))
+
+-- the place in what next order answers
+unfoldable pub orderPlace : Order → ℕ
+orderPlace (Request x) = suc x
+orderPlace (Return x) = suc x
+orderPlace Wait = 0
+orderPlace (Flown w) = w
+orderPlace Off = 0

@@ -1,0 +1,33 @@
+-- Rule 2 as work on whole sets, and how the bookings stand after a Y or an N.
+-- Assumes nothing.
+use mathlib.Core.Path.{_≡_, ap, _∙_}
+use mathlib.Core.Bool.{Bool, not, _&&_}
+use Prim.Native.Nat.{ℕ, _^_, _≤_, _<_}
+use lib.ListN.{length}
+use lib.Bits.{bitOr}
+use Rattle.bounded.specs.Bounded.{first}
+use Rattle.bounded.proofs.First.{first-ext}
+use Rattle.sets.specs.Sets.{member, without}
+use Rattle.sets.proofs.Gather.{member-gather}
+use Rattle.sets.proofs.Operations.{member-without}
+use Rattle.verdict.specs.declared.Network.{Network}
+use Rattle.standing.specs.Ways.{precedesSome, preceding}
+use Rattle.standing.specs.declared.Standing.{Standing}
+use Rattle.standing.specs.Standing.{moved}
+use Rattle.standing.proofs.Codes.{moved-is}
+use Rattle.run.specs.declared.Run.{Run}
+use Rattle.run.specs.State.{standing, put}
+use Rattle.run.specs.Orders.{toReturn}
+
+pub return-is : (g : Network) (s : Standing) (way x : ℕ)
+    → x ≡ first (member (without (without (s .held) way) (preceding g (bitOr (s .held) (s .returning))))) 64 → x ≡ first (toReturn g s way) 64
+unfolding toReturn preceding
+return-is g s way x e =
+    let out = without (s .held) way in
+    let kept = bitOr (s .held) (s .returning) in
+    e ∙ first-ext (member (without out (preceding g kept))) (toReturn g s way) 64
+    (λ i l. member-without out (preceding g kept) i l ∙ ap (λ (t : Bool). member out i && not t) (member-gather (precedesSome g kept) 64 i l))
+
+pub moved-stands : (g : Network) (r t : Run) (s m : Standing) (b c x : ℕ) → g .n ≤ 64 → b < g .n → length (r .code) ≡ 64 → s ≡ standing g r
+    → x ≡ 2 ^ b → m ≡ moved s x c → t ≡ put r b c → m ≡ standing g t
+moved-stands g r t s m b c x h l k es ex em et = rw (et, em, ex) (moved-is (r .code) (g .n) b c s h l k es)

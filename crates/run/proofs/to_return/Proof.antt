@@ -1,0 +1,19 @@
+-- `run::to_return` meets its contract.
+-- Assumes nothing.
+use mathlib.Core.Path.{ap, ap₂, _∙_}
+use Prim.Native.Nat.{ℕ}
+use borrow.Author.Needs.{needs}
+use Rattle.bounded.specs.Bounded.{first}
+use Rattle.sets.specs.Sets.{member, without}
+use Rattle.run.proofs.Steps.{return-is}
+use Rattle.run.proofs.to_return.Statement.{statement}
+use Rattle.run.proofs.to_return.Tie as tie
+
+returns : tie.Need-returns
+returns c =
+    let p = c .before .before in
+    return-is _ _ _ _ (c .lowest .ensures ∙ ap (λ (s : ℕ). first (member s) 64)
+    (c .before .minus2 .ensures ∙ ap₂ without (p .before .before .minus .ensures) (p .preceding .ensures)))
+
+pub to-return-spec : {M : Type 1} → statement M
+to-return-spec = tie.close (tie.spec (search needs) (search needs) (search needs) (search needs) returns)

@@ -1,0 +1,4 @@
+-- The laws of crate `standing`.
+pub mod Codes
+pub mod Loops
+pub mod Facts

@@ -1,0 +1,3 @@
+-- The definitions of crate `standing`.
+pub mod Standing
+pub mod Ways

@@ -1,0 +1,132 @@
+// How the bookings of a plan stand: one look at the codes of a state gives the set of each code, and the rules ask these sets.
+use verdict::Network;
+ghost use mathlib.Core.Path.{_≡_};
+ghost use Prim.Native.Nat.{suc, _≤_, _<_};
+ghost use lib.Dec.{leb};
+ghost use Rattle.bounded.specs.Bounded.{any};
+ghost use Rattle.sets.specs.Sets.{alone};
+ghost use Rattle.verdict.specs.Network.{wayOf};
+ghost use Rattle.standing.specs.Standing.{placed, moved, standingOf};
+ghost use Rattle.standing.specs.Ways.{preceding, lostIn, live, firstLive};
+
+// The codes of a booking.
+pub const FREE: u8 = 0;
+
+pub const REQUESTED: u8 = 1;
+
+pub const HELD: u8 = 2;
+
+pub const LOST: u8 = 3;
+
+pub const RETURNING: u8 = 4;
+
+// The bookings of a plan by their code.
+pub struct Standing {
+    pub free: u64,
+    pub requested: u64,
+    pub held: u64,
+    pub lost: u64,
+    pub returning: u64,
+}
+
+// The set s with the set b put in, or taken out.
+fn placed(here: bool, s: u64, b: u64) -> u64
+    ensures { λ r. ⌜ r ≡ placed here s b ⌝ }
+{
+    if here { s | b } else { sets::minus(s, b) }
+}
+
+impl Standing {
+    // The same with the bookings b under code c.
+    pub fn moved(self, b: u64, c: u8) -> Standing
+        ensures { λ r. ⌜ r ≡ moved self b c ⌝ }
+    {
+        let free = placed(c == FREE, self.free, b);
+        let requested = placed(c == REQUESTED, self.requested, b);
+        let held = placed(c == HELD, self.held, b);
+        let lost = placed(c == LOST, self.lost, b);
+        let returning = placed(c == RETURNING, self.returning, b);
+        Standing {
+            free,
+            requested,
+            held,
+            lost,
+            returning,
+        }
+    }
+
+    // Whether the way has a lost booking.
+    pub fn lost_in(self, way: u64) -> bool
+        ensures { λ t. ⌜ t ≡ lostIn self way ⌝ }
+    {
+        !sets::disjoint(way, self.lost)
+    }
+
+    // Whether the way has no lost booking and has every held firm one.
+    pub fn is_live(self, g: Network, way: u64) -> bool
+        ensures { λ t. ⌜ t ≡ live g self way ⌝ }
+    {
+        if self.lost_in(way) {
+            return false;
+        }
+        sets::subset(self.held & g.firm, way)
+    }
+
+    // The first live way, or 0 if there is none.
+    pub fn first_live(self, g: Network) -> u8
+        requires { ⌜ g .a ≤ 16 ⌝ }
+        ensures { λ w. ⌜ w ≡ firstLive g self ⌝ }
+    {
+        for k in 0..g.a {
+            if self.is_live(g, g.way[k]) {
+                return (k + 1) as u8;
+            }
+        }
+        0
+    }
+}
+
+// One look at the codes: how the first n bookings stand.
+pub fn look(code: [u8; 64], n: usize) -> Standing
+    requires { ⌜ n ≤ 64 ⌝ }
+    ensures { λ s. ⌜ s ≡ standingOf code n ⌝ }
+{
+    let bits = sets::bits();
+    let mut s = Standing {
+        free: 0,
+        requested: 0,
+        held: 0,
+        lost: 0,
+        returning: 0,
+    };
+    for i in 0..n {
+        s = s.moved(bits[i], code[i]);
+    }
+    s
+}
+
+// The bookings of way w; no way has none.
+pub fn way_of(g: Network, w: usize) -> u64
+    requires { ⌜ w ≤ 16 ⌝ }
+    ensures { λ s. ⌜ s ≡ wayOf g w ⌝ }
+{
+    if w == 0 {
+        return 0;
+    }
+    let k = w - 1;
+    g.way[k]
+}
+
+// The bookings that precede some member of s.
+pub fn preceding(g: Network, s: u64) -> u64
+    requires { ⌜ g .n ≤ 64 ⌝ }
+    ensures { λ r. ⌜ r ≡ preceding g s ⌝ }
+{
+    let mut r: u64 = 0;
+    for v in 0..g.n {
+        if sets::has(s, v) {
+            r = r | g.before[v];
+        }
+    }
+    r
+}
