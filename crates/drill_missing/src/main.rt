@@ -1,4 +1,0 @@
-// The drill without a plan.txt, which counts as empty.
-fn main() {
-    drill_run::run();
-}
