@@ -2,13 +2,8 @@
 
 use crate::check::{self, Network};
 use crate::plan;
+use crate::refusal::Refusal;
 use crate::run::{Change, Order, Run, STATE_LENGTH};
-
-#[derive(Clone, Copy)]
-pub struct Refusal {
-    pub number: u32,
-    pub place: u32,
-}
 
 const UNSOUND: Refusal = Refusal { number: 11, place: 0 };
 

@@ -1,7 +1,7 @@
 //! Chains of links, and the check on whole sets.
 
-use crate::calls::Refusal;
 use crate::plan::Plan;
+use crate::refusal::Refusal;
 
 pub struct Network {
     pub bookings: usize,

@@ -9,6 +9,7 @@ mod equal;
 mod library;
 mod measure;
 mod plan;
+mod refusal;
 mod run;
 mod sheets;
 

@@ -1,6 +1,6 @@
 //! Reads a plan sheet in one pass, straight into sets: booking b is bit b - 1.
 
-use crate::calls::Refusal;
+use crate::refusal::Refusal;
 
 pub const MOST_BOOKINGS: u32 = 64;
 pub const MOST_LINKS: u32 = 512;
