@@ -1,33 +1,27 @@
 /*
- * Booking coordinator for flight test campaigns: the four calls.
+ * Booking coordinator for flight test campaigns: the calls for C and C++.
  *
  * A plan sheet lists a campaign's bookings, which comes before which, and the
  * ways to fly it, the most wanted first. The coordinator says which booking to
  * request or to return next and takes in what the desks reply, until either
  * one whole way is held and nothing else, or nothing is held at all.
  *
- * How a dispatcher uses it:
+ * First comes what all calls share, then the calls in groups:
  *
- *     uint8_t state[CAMPAIGN_STATE_LENGTH];
- *     answer = campaign_start(sheet, length, state, sizeof state);
- *     then, until the end:
- *         answer = campaign_next_order(sheet, length, state, sizeof state);
- *         request or return: send it to the booking's desk, ask again at once;
- *         wait:              await a reply of any desk, hand it to
- *                            campaign_reply, ask again;
- *         flown, called off: done.
+ *     Sheets     campaign_check
+ *     The run    campaign_start, campaign_next_order, campaign_reply
  *
- * Nothing is kept between the calls: all of a campaign stands in its sheet and
- * its state. Store the state before an order is sent and a run can go on after
- * a crash; whether the last order was sent is then for the dispatcher to find
- * out, for the state says only that it was given. Calls on different states may
- * run at the same time; while a call runs, nobody else may write its sheet or
- * touch its state.
  *
+ * What may be lent
+ * ----------------
  * Pointers must not be null and must reach as many bytes as their length says;
  * sheet and state must not overlap. Beyond that every byte and every length is
  * allowed: what is wrong with them is answered by a refusal. A refused call
  * leaves every lent byte as it was.
+ *
+ * Nothing is kept between the calls: all of a campaign stands in its sheet and
+ * its state. Calls on different states may run at the same time; while a call
+ * runs, nobody else may write its sheet or touch its state.
  *
  *
  * The plan sheet
@@ -71,6 +65,8 @@
 #ifdef __cplusplus
 extern "C" {
 #endif
+
+/* ======================== Shared by all calls ======================== */
 
 /* Limits of a sheet. */
 #define CAMPAIGN_MOST_BOOKINGS 64
@@ -143,21 +139,13 @@ enum campaign_refusal {
        returning one; or there is no such letter or booking (the booking given,
        0 if it is above 64). */
     CAMPAIGN_MISFIT = 9,
-    /* A buffer is too short for the text to be written (0). None of the four
+    /* A buffer is too short for the text to be written (0). None of these
        calls gives it. */
     CAMPAIGN_SHORT_BUFFER = 10,
     /* The state is not sound: it has not 65 bytes, or its bytes contradict the
        sheet or each other, being damaged or of another sheet (0). A change that
        leaves a sound state is not noticed. */
     CAMPAIGN_UNSOUND = 11
-};
-
-/* Letters of a reply. */
-enum campaign_letter {
-    CAMPAIGN_CONFIRMED = 'Y', /* to a request: it is held now */
-    CAMPAIGN_DECLINED = 'N',  /* to a request: lost if C or P; if R ask again */
-    CAMPAIGN_RETURNED = 'G',  /* to a return: it is free now */
-    CAMPAIGN_KEPT = 'K'       /* to a return: it failed, it is still held */
 };
 
 /* An answer is kind * 16777216 + refusal * 65536 + place. */
@@ -189,12 +177,41 @@ static inline uint32_t campaign_stranded_booking(uint32_t place)
     return place & 0xFFu;
 }
 
+/* =============================== Sheets =============================== */
+
 /*
  * Is this a sheet that can be flown without being stranded?
  *
  * Accepted with place 0, or refused with 1 to 8. Writes nothing.
  */
 uint32_t campaign_check(const uint8_t *sheet, size_t sheet_len);
+
+/* ============================== The run =============================== */
+
+/*
+ * How a dispatcher uses it:
+ *
+ *     uint8_t state[CAMPAIGN_STATE_LENGTH];
+ *     answer = campaign_start(sheet, length, state, sizeof state);
+ *     then, until the end:
+ *         answer = campaign_next_order(sheet, length, state, sizeof state);
+ *         request or return: send it to the booking's desk, ask again at once;
+ *         wait:              await a reply of any desk, hand it to
+ *                            campaign_reply, ask again;
+ *         flown, called off: done.
+ *
+ * Store the state before an order is sent and a run can go on after a crash;
+ * whether the last order was sent is then for the dispatcher to find out, for
+ * the state says only that it was given.
+ */
+
+/* Letters of a reply. */
+enum campaign_letter {
+    CAMPAIGN_CONFIRMED = 'Y', /* to a request: it is held now */
+    CAMPAIGN_DECLINED = 'N',  /* to a request: lost if C or P; if R ask again */
+    CAMPAIGN_RETURNED = 'G',  /* to a return: it is free now */
+    CAMPAIGN_KEPT = 'K'       /* to a return: it failed, it is still held */
+};
 
 /*
  * Begins a campaign: way 1, every booking free.
