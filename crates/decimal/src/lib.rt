@@ -55,19 +55,6 @@ fn digit(b: u8) -> usize
     (b % 16) as usize
 }
 
-// The byte in the column with which the number q ends.
-fn shown(q: usize, last: bool) -> u8
-    ensures { λ r. ⌜ r ≡ column last q ⌝ }
-{
-    if q != 0 {
-        return 48 + (q % 10) as u8;
-    }
-    if last {
-        return b'0';
-    }
-    b' '
-}
-
 // Where the number begins among w columns: after the spaces in front, in the last column at the latest.
 fn begin(s: &[u8], w: usize) -> usize
     requires { ⌜ w ≤ length (now s) ⌝ }
@@ -134,6 +121,19 @@ pub fn field_at(line: &[u8], at: usize, w: usize) -> Field
     ensures { λ r. ⌜ r ≡ fieldAt w at (now (line .entry)) ⌝ }
 {
     read_field(part(line, at, w), w)
+}
+
+// The byte in the column with which the number q ends.
+fn shown(q: usize, last: bool) -> u8
+    ensures { λ r. ⌜ r ≡ column last q ⌝ }
+{
+    if q != 0 {
+        return 48 + (q % 10) as u8;
+    }
+    if last {
+        return b'0';
+    }
+    b' '
 }
 
 // Writes the w columns of x from at on, the last column first.

@@ -8,6 +8,7 @@ use lib.ListN.{length, getD}
 use lib.Seq.{sets}
 use Rattle.decimal.specs.Decimal.{columns, columnsTo}
 use Rattle.decimal.proofs.Stores.{sets-append, sets-next}
+use Rattle.lines.specs.Form.{headBytes, bookingBytes, linkBytes}
 use Rattle.lines.specs.Head.{headText}
 use Rattle.lines.specs.Booking.{bookingText}
 use Rattle.lines.specs.Link.{linkText}
@@ -19,31 +20,31 @@ use Rattle.lines.proofs.Lengths.{booking-length, link-length}
 
 module _ (d b1 b2 b3 b4 b5 : List ℕ) where
   pub head-written : (n m a : ℕ) → b1 ≡ sets d 0 (80 ∷ []) → b2 ≡ sets b1 1 (columns 4 n) → b3 ≡ sets b2 5 (columns 4 m) → b4 ≡ sets b3 9 (columns 4 a)
-      → b5 ≡ sets b4 13 (10 ∷ []) → b5 ≡ sets d 0 (headText n m a)
+      → b5 ≡ sets b4 (headBytes - 1) (10 ∷ []) → b5 ≡ sets d 0 (headText n m a)
   unfolding headText columns columnsTo
   head-written n m a e f g h k =
       let x : b2 ≡ sets d 0 (80 ∷ columns 4 n) = sets-next d b1 b2 0 1 (80 ∷ []) (columns 4 n) refl e f in
       let y : b3 ≡ sets d 0 (80 ∷ (columns 4 n ++ columns 4 m)) = sets-next d b2 b3 0 5 (80 ∷ columns 4 n) (columns 4 m) refl x g in
       let z : b4 ≡ sets d 0 (80 ∷ (columns 4 n ++ (columns 4 m ++ columns 4 a))) =
       sets-next d b3 b4 0 9 (80 ∷ (columns 4 n ++ columns 4 m)) (columns 4 a) refl y h in
-      sets-next d b4 b5 0 13 (80 ∷ (columns 4 n ++ (columns 4 m ++ columns 4 a))) (10 ∷ []) refl z k
+      sets-next d b4 b5 0 (headBytes - 1) (80 ∷ (columns 4 n ++ (columns 4 m ++ columns 4 a))) (10 ∷ []) refl z k
 
   pub booking-written : (at x k : ℕ) → b1 ≡ sets d at (66 ∷ []) → b2 ≡ sets b1 (at + 1) (columns 4 x) → b3 ≡ sets b2 (at + 5) (32 ∷ [])
-      → b4 ≡ sets b3 (at + 6) (k ∷ []) → b5 ≡ sets b4 (at + 7) (10 ∷ []) → b5 ≡ sets d at (bookingText x k)
+      → b4 ≡ sets b3 (at + 6) (k ∷ []) → b5 ≡ sets b4 (at + (bookingBytes - 1)) (10 ∷ []) → b5 ≡ sets d at (bookingText x k)
   unfolding bookingText columns columnsTo
   booking-written at x k e f g h l =
       let p : b2 ≡ sets d at (66 ∷ columns 4 x) = sets-next d b1 b2 at (at + 1) (66 ∷ []) (columns 4 x) refl e f in
       let q : b3 ≡ sets d at (66 ∷ (columns 4 x ++ (32 ∷ []))) = sets-next d b2 b3 at (at + 5) (66 ∷ columns 4 x) (32 ∷ []) refl p g in
       let r : b4 ≡ sets d at (66 ∷ (columns 4 x ++ (32 ∷ k ∷ []))) = sets-next d b3 b4 at (at + 6) (66 ∷ (columns 4 x ++ (32 ∷ []))) (k ∷ []) refl q h in
-      sets-next d b4 b5 at (at + 7) (66 ∷ (columns 4 x ++ (32 ∷ k ∷ []))) (10 ∷ []) refl r l
+      sets-next d b4 b5 at (at + (bookingBytes - 1)) (66 ∷ (columns 4 x ++ (32 ∷ k ∷ []))) (10 ∷ []) refl r l
 
 pub link-written : (d b1 b2 b3 b4 : List ℕ) (at u v : ℕ) → b1 ≡ sets d at (76 ∷ []) → b2 ≡ sets b1 (at + 1) (columns 4 u)
-    → b3 ≡ sets b2 (at + 5) (columns 4 v) → b4 ≡ sets b3 (at + 9) (10 ∷ []) → b4 ≡ sets d at (linkText u v)
+    → b3 ≡ sets b2 (at + 5) (columns 4 v) → b4 ≡ sets b3 (at + (linkBytes - 1)) (10 ∷ []) → b4 ≡ sets d at (linkText u v)
 unfolding linkText columns columnsTo
 link-written d b1 b2 b3 b4 at u v e f g h =
     let p : b2 ≡ sets d at (76 ∷ columns 4 u) = sets-next d b1 b2 at (at + 1) (76 ∷ []) (columns 4 u) refl e f in
     let q : b3 ≡ sets d at (76 ∷ (columns 4 u ++ columns 4 v)) = sets-next d b2 b3 at (at + 5) (76 ∷ columns 4 u) (columns 4 v) refl p g in
-    sets-next d b3 b4 at (at + 9) (76 ∷ (columns 4 u ++ columns 4 v)) (10 ∷ []) refl q h
+    sets-next d b3 b4 at (at + (linkBytes - 1)) (76 ∷ (columns 4 u ++ columns 4 v)) (10 ∷ []) refl q h
 
 -- ---- the lines of the bookings
 
@@ -53,11 +54,11 @@ kinds-step n i ks h =
     let e : n - i ≡ suc (n - (i + 1)) = omega arith in
     rw e
 
-pub kinds-on : (n at i : ℕ) (buf buf′ ks whole : List ℕ) → i < n → sets buf (at + 8 * i) (kindsText (n - i) i ks) ≡ whole
-    → buf′ ≡ sets buf (at + 8 * i) (bookingText (i + 1) (getD ks i 0)) → sets buf′ (at + 8 * (i + 1)) (kindsText (n - (i + 1)) (i + 1) ks) ≡ whole
+pub kinds-on : (n at i : ℕ) (buf buf′ ks whole : List ℕ) → i < n → sets buf (at + bookingBytes * i) (kindsText (n - i) i ks) ≡ whole
+    → buf′ ≡ sets buf (at + bookingBytes * i) (bookingText (i + 1) (getD ks i 0)) → sets buf′ (at + bookingBytes * (i + 1)) (kindsText (n - (i + 1)) (i + 1) ks) ≡ whole
 kinds-on n at i buf buf′ ks whole h w e =
-    let d : at + 8 * (i + 1) ≡ at + 8 * i + length (bookingText (i + 1) (getD ks i 0)) = rw booking-length (omega arith) in
-    rw (e, d, ← sets-append buf (at + 8 * i) (bookingText (i + 1) (getD ks i 0)) (kindsText (n - (i + 1)) (i + 1) ks), ← kinds-step n i ks h) w
+    let d : at + bookingBytes * (i + 1) ≡ at + bookingBytes * i + length (bookingText (i + 1) (getD ks i 0)) = rw booking-length (omega arith) in
+    rw (e, d, ← sets-append buf (at + bookingBytes * i) (bookingText (i + 1) (getD ks i 0)) (kindsText (n - (i + 1)) (i + 1) ks), ← kinds-step n i ks h) w
 
 pub kinds-all : (n i p : ℕ) (buf ks whole : List ℕ) → n ≤ i → sets buf p (kindsText (n - i) i ks) ≡ whole → buf ≡ whole
 unfolding kindsText
@@ -73,11 +74,11 @@ links-step m i us vs h =
     let e : m - i ≡ suc (m - (i + 1)) = omega arith in
     rw e
 
-pub links-on : (m at i : ℕ) (buf buf′ us vs whole : List ℕ) → i < m → sets buf (at + 10 * i) (linksText (m - i) i us vs) ≡ whole
-    → buf′ ≡ sets buf (at + 10 * i) (linkText (getD us i 0) (getD vs i 0)) → sets buf′ (at + 10 * (i + 1)) (linksText (m - (i + 1)) (i + 1) us vs) ≡ whole
+pub links-on : (m at i : ℕ) (buf buf′ us vs whole : List ℕ) → i < m → sets buf (at + linkBytes * i) (linksText (m - i) i us vs) ≡ whole
+    → buf′ ≡ sets buf (at + linkBytes * i) (linkText (getD us i 0) (getD vs i 0)) → sets buf′ (at + linkBytes * (i + 1)) (linksText (m - (i + 1)) (i + 1) us vs) ≡ whole
 links-on m at i buf buf′ us vs whole h w e =
-    let d : at + 10 * (i + 1) ≡ at + 10 * i + length (linkText (getD us i 0) (getD vs i 0)) = rw link-length (omega arith) in
-    rw (e, d, ← sets-append buf (at + 10 * i) (linkText (getD us i 0) (getD vs i 0)) (linksText (m - (i + 1)) (i + 1) us vs), ← links-step m i us vs h) w
+    let d : at + linkBytes * (i + 1) ≡ at + linkBytes * i + length (linkText (getD us i 0) (getD vs i 0)) = rw link-length (omega arith) in
+    rw (e, d, ← sets-append buf (at + linkBytes * i) (linkText (getD us i 0) (getD vs i 0)) (linksText (m - (i + 1)) (i + 1) us vs), ← links-step m i us vs h) w
 
 pub links-all : (m i p : ℕ) (buf us vs whole : List ℕ) → m ≤ i → sets buf p (linksText (m - i) i us vs) ≡ whole → buf ≡ whole
 unfolding linksText

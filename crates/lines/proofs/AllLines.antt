@@ -14,6 +14,7 @@ use Rattle.bounded.proofs.Bools.{clash, same?}
 use Rattle.plan.specs.Record.{kindAt, linkAt}
 use Rattle.plan.specs.Limits.{inSequence}
 use Rattle.plan.specs.declared.Judged.the-variants.{Fine, Form, Sequence}
+use Rattle.lines.specs.Form.{bookingBytes, linkBytes}
 use Rattle.lines.specs.Booking.{bookingText, bookingOf}
 use Rattle.lines.specs.Link.{linkText, linkOf}
 use Rattle.lines.specs.Kinds.{kindsText, afterBooking, kindsOf}
@@ -37,13 +38,13 @@ kinds-read zero i ks rest acc h q = refl
 kinds-read (suc n) i ks rest acc h q =
     let b : List ℕ = bookingText (i + 1) (getD ks i 0) in
     let e : bookingText (i + 1) (getD ks i 0) ++ kindsText n (i + 1) ks ++ rest ≡ b ++ (kindsText n (i + 1) ks ++ rest) = append-assoc b _ _ in
-    let t : take 8 (b ++ (kindsText n (i + 1) ks ++ rest)) ≡ b = take-at b _ 8 (booking-length _ _) in
-    let d : drop 8 (b ++ (kindsText n (i + 1) ks ++ rest)) ≡ kindsText n (i + 1) ks ++ rest = drop-at b _ 8 (booking-length _ _) in
+    let t : take bookingBytes (b ++ (kindsText n (i + 1) ks ++ rest)) ≡ b = take-at b _ bookingBytes (booking-length _ _) in
+    let d : drop bookingBytes (b ++ (kindsText n (i + 1) ks ++ rest)) ≡ kindsText n (i + 1) ks ++ rest = drop-at b _ bookingBytes (booking-length _ _) in
     let r : bookingOf b (i + 1) ≡ B.Kind (getD ks i 0) = booking-read (i + 1) (getD ks i 0) (omega arith) (q i (omega arith) (omega arith)) in
     rw (e, t, d, r) (kinds-read n (i + 1) ks rest (set acc i (getD ks i 0)) (omega arith) (λ j l u. q j (omega arith) (omega arith)))
 
 pub record KindsAre (n i : ℕ) (rest acc ks : List ℕ) : Type 0 where
-  pub text : take (8 * n) rest ≡ kindsText n i ks
+  pub text : take (bookingBytes * n) rest ≡ kindsText n i ks
   pub good : (j : ℕ) → i ≤ j → j < i + n → kindAt ks j ≡ true
   pub kept : (j : ℕ) → j < i → getD ks j 0 ≡ getD acc j 0
 
@@ -53,19 +54,19 @@ kinds-accepted zero i rest acc ks h e =
     let k : acc ≡ ks = ap (λ (r : Kinds). r .kind) e in
     record { text = refl; good = λ j l u. absurd (omega arith); kept = λ j l. ap (λ (r : List ℕ). getD r j 0) (sym k) }
 kinds-accepted (suc n) i rest acc ks h e =
-    go (λ k. kinds-accepted n (i + 1) (drop 8 rest) (set acc i k) ks (rw length-set (omega arith))) (bookingOf (take 8 rest) (i + 1)) refl e
+    go (λ k. kinds-accepted n (i + 1) (drop bookingBytes rest) (set acc i k) ks (rw length-set (omega arith))) (bookingOf (take bookingBytes rest) (i + 1)) refl e
   where
-    go : ((k : ℕ) → kindsOf n (i + 1) (drop 8 rest) (set acc i k) ≡ record { judged = Fine; kind = ks } → KindsAre n (i + 1) (drop 8 rest) (set acc i k) ks)
-        → (b : Booking) → bookingOf (take 8 rest) (i + 1) ≡ b
-        → afterBooking b (i + 2) acc (λ k. kindsOf n (i + 1) (drop 8 rest) (set acc i k)) ≡ record { judged = Fine; kind = ks }
+    go : ((k : ℕ) → kindsOf n (i + 1) (drop bookingBytes rest) (set acc i k) ≡ record { judged = Fine; kind = ks } → KindsAre n (i + 1) (drop bookingBytes rest) (set acc i k) ks)
+        → (b : Booking) → bookingOf (take bookingBytes rest) (i + 1) ≡ b
+        → afterBooking b (i + 2) acc (λ k. kindsOf n (i + 1) (drop bookingBytes rest) (set acc i k)) ≡ record { judged = Fine; kind = ks }
         → KindsAre (suc n) i rest acc ks
     go more (B.Kind k) f g =
-        let a : KindsAre n (i + 1) (drop 8 rest) (set acc i k) ks = more k g in
-        let l : BookingIs (take 8 rest) (i + 1) k = booking-accepted (take 8 rest) (i + 1) k f in
+        let a : KindsAre n (i + 1) (drop bookingBytes rest) (set acc i k) ks = more k g in
+        let l : BookingIs (take bookingBytes rest) (i + 1) k = booking-accepted (take bookingBytes rest) (i + 1) k f in
         let v : getD ks i 0 ≡ k = a .kept i (omega arith) ∙ getD-set-same acc i k 0 (omega arith) in
-        let m : 8 * suc n ≡ 8 + 8 * n = omega arith in
+        let m : bookingBytes * suc n ≡ bookingBytes + bookingBytes * n = omega arith in
         record {
-          text = rw (m, take-add 8 (8 * n) rest, l .text, a .text, v);
+          text = rw (m, take-add bookingBytes (bookingBytes * n) rest, l .text, a .text, v);
           good = λ j p u. elim (same? j i) [ inl q ↦ rw (q, v) (l .known) | inr d ↦ a .good j (omega arith) (omega arith) ];
           kept = λ j p. a .kept j (omega arith) ∙ getD-set-other acc i j k 0 (λ q. omega arith);
         }
@@ -74,32 +75,32 @@ kinds-accepted (suc n) i rest acc ks h e =
 
 -- ---- links
 
-pub links-read : (n m i : ℕ) (us vs rest : List ℕ) (pu pv : ℕ) (au av : List ℕ) → n < 10 ^ 4
-    → ((j : ℕ) → i ≤ j → j < i + m → linkAt n us vs j ≡ true) → pu ≡ getD (0 ∷ us) i 0 → pv ≡ getD (0 ∷ vs) i 0
-    → linksOf n m i (linksText m i us vs ++ rest) pu pv au av ≡ record { judged = Fine; from = filled m i us au; to = filled m i vs av }
+pub links-read : (n m i : ℕ) (us vs rest : List ℕ) (lastFrom lastTo : ℕ) (au av : List ℕ) → n < 10 ^ 4
+    → ((j : ℕ) → i ≤ j → j < i + m → linkAt n us vs j ≡ true) → lastFrom ≡ getD (0 ∷ us) i 0 → lastTo ≡ getD (0 ∷ vs) i 0
+    → linksOf n m i (linksText m i us vs ++ rest) lastFrom lastTo au av ≡ record { judged = Fine; from = filled m i us au; to = filled m i vs av }
 unfolding linksOf linksText filled linkAt
-links-read n zero i us vs rest pu pv au av h g p q = refl
-links-read n (suc m) i us vs rest pu pv au av h g p q =
+links-read n zero i us vs rest lastFrom lastTo au av h g p q = refl
+links-read n (suc m) i us vs rest lastFrom lastTo au av h g p q =
     let b : List ℕ = linkText (getD us i 0) (getD vs i 0) in
     let r : List ℕ = linksText m (i + 1) us vs ++ rest in
     let a : linkText (getD us i 0) (getD vs i 0) ++ linksText m (i + 1) us vs ++ rest ≡ b ++ r = append-assoc b (linksText m (i + 1) us vs) rest in
-    let t : take 10 (b ++ r) ≡ b = take-at b r 10 (link-length (getD us i 0) (getD vs i 0)) in
-    let d : drop 10 (b ++ r) ≡ r = drop-at b r 10 (link-length (getD us i 0) (getD vs i 0)) in
-    let s : inSequence n pu pv (getD us i 0) (getD vs i 0) ≡ true = rw (p, q) (g i (omega arith) (omega arith)) in
+    let t : take linkBytes (b ++ r) ≡ b = take-at b r linkBytes (link-length (getD us i 0) (getD vs i 0)) in
+    let d : drop linkBytes (b ++ r) ≡ r = drop-at b r linkBytes (link-length (getD us i 0) (getD vs i 0)) in
+    let s : inSequence n lastFrom lastTo (getD us i 0) (getD vs i 0) ≡ true = rw (p, q) (g i (omega arith) (omega arith)) in
     let x : getD us i 0 ≡ getD (0 ∷ us) (i + 1) 0 = rw add-one in
     let y : getD vs i 0 ≡ getD (0 ∷ vs) (i + 1) 0 = rw add-one in
-    rw (a, t, d, link-read n pu pv (getD us i 0) (getD vs i 0) h s)
+    rw (a, t, d, link-read n lastFrom lastTo (getD us i 0) (getD vs i 0) h s)
     (links-read n m (i + 1) us vs rest (getD us i 0) (getD vs i 0) (set au i (getD us i 0)) (set av i (getD vs i 0)) h (λ j l u. g j (omega arith) (omega arith)) x y)
 
-pub record LinksAre (n m i : ℕ) (rest : List ℕ) (pu pv : ℕ) (au av us vs : List ℕ) : Type 0 where
-  pub text : take (10 * m) rest ≡ linksText m i us vs
-  pub good : pu ≡ getD (0 ∷ us) i 0 → pv ≡ getD (0 ∷ vs) i 0 → (j : ℕ) → i ≤ j → j < i + m → linkAt n us vs j ≡ true
+pub record LinksAre (n m i : ℕ) (rest : List ℕ) (lastFrom lastTo : ℕ) (au av us vs : List ℕ) : Type 0 where
+  pub text : take (linkBytes * m) rest ≡ linksText m i us vs
+  pub good : lastFrom ≡ getD (0 ∷ us) i 0 → lastTo ≡ getD (0 ∷ vs) i 0 → (j : ℕ) → i ≤ j → j < i + m → linkAt n us vs j ≡ true
   pub kept : (j : ℕ) → j < i → (getD us j 0 ≡ getD au j 0) × (getD vs j 0 ≡ getD av j 0)
 
-pub links-accepted : (n m i : ℕ) (rest : List ℕ) (pu pv : ℕ) (au av us vs : List ℕ) → i + m ≤ length au → i + m ≤ length av
-    → linksOf n m i rest pu pv au av ≡ record { judged = Fine; from = us; to = vs } → LinksAre n m i rest pu pv au av us vs
+pub links-accepted : (n m i : ℕ) (rest : List ℕ) (lastFrom lastTo : ℕ) (au av us vs : List ℕ) → i + m ≤ length au → i + m ≤ length av
+    → linksOf n m i rest lastFrom lastTo au av ≡ record { judged = Fine; from = us; to = vs } → LinksAre n m i rest lastFrom lastTo au av us vs
 unfolding linksOf linksText linkAt
-links-accepted n zero i rest pu pv au av us vs h k e =
+links-accepted n zero i rest lastFrom lastTo au av us vs h k e =
     let a : au ≡ us = ap (λ (r : Links). r .from) e in
     let b : av ≡ vs = ap (λ (r : Links). r .to) e in
     record {
@@ -107,25 +108,25 @@ links-accepted n zero i rest pu pv au av us vs h k e =
       good = λ p q j l u. absurd (omega arith);
       kept = λ j l. (ap (λ (r : List ℕ). getD r j 0) (sym a), ap (λ (r : List ℕ). getD r j 0) (sym b));
     }
-links-accepted n (suc m) i rest pu pv au av us vs h k e =
-    go (λ u v. links-accepted n m (i + 1) (drop 10 rest) u v (set au i u) (set av i v) us vs (rw length-set (omega arith)) (rw length-set (omega arith)))
-    (linkOf (take 10 rest) n pu pv) refl e
+links-accepted n (suc m) i rest lastFrom lastTo au av us vs h k e =
+    go (λ u v. links-accepted n m (i + 1) (drop linkBytes rest) u v (set au i u) (set av i v) us vs (rw length-set (omega arith)) (rw length-set (omega arith)))
+    (linkOf (take linkBytes rest) n lastFrom lastTo) refl e
   where
-    go : ((u v : ℕ) → linksOf n m (i + 1) (drop 10 rest) u v (set au i u) (set av i v) ≡ record { judged = Fine; from = us; to = vs }
-        → LinksAre n m (i + 1) (drop 10 rest) u v (set au i u) (set av i v) us vs)
-        → (b : Link) → linkOf (take 10 rest) n pu pv ≡ b
-        → afterLink b (n + 2 + i) au av (λ u v. linksOf n m (i + 1) (drop 10 rest) u v (set au i u) (set av i v)) ≡ record { judged = Fine; from = us; to = vs }
-        → LinksAre n (suc m) i rest pu pv au av us vs
+    go : ((u v : ℕ) → linksOf n m (i + 1) (drop linkBytes rest) u v (set au i u) (set av i v) ≡ record { judged = Fine; from = us; to = vs }
+        → LinksAre n m (i + 1) (drop linkBytes rest) u v (set au i u) (set av i v) us vs)
+        → (b : Link) → linkOf (take linkBytes rest) n lastFrom lastTo ≡ b
+        → afterLink b (n + 2 + i) au av (λ u v. linksOf n m (i + 1) (drop linkBytes rest) u v (set au i u) (set av i v)) ≡ record { judged = Fine; from = us; to = vs }
+        → LinksAre n (suc m) i rest lastFrom lastTo au av us vs
     go more (L.Pair u v) f g =
-        let a : LinksAre n m (i + 1) (drop 10 rest) u v (set au i u) (set av i v) us vs = more u v g in
-        let l : LinkIs (take 10 rest) n pu pv u v = link-accepted (take 10 rest) n pu pv u v f in
+        let a : LinksAre n m (i + 1) (drop linkBytes rest) u v (set au i u) (set av i v) us vs = more u v g in
+        let l : LinkIs (take linkBytes rest) n lastFrom lastTo u v = link-accepted (take linkBytes rest) n lastFrom lastTo u v f in
         let x : getD us i 0 ≡ u = a .kept i (omega arith) .0 ∙ getD-set-same au i u 0 (omega arith) in
         let y : getD vs i 0 ≡ v = a .kept i (omega arith) .1 ∙ getD-set-same av i v 0 (omega arith) in
         let x′ : u ≡ getD (0 ∷ us) (i + 1) 0 = sym x ∙ rw add-one in
         let y′ : v ≡ getD (0 ∷ vs) (i + 1) 0 = sym y ∙ rw add-one in
-        let c : 10 * suc m ≡ 10 + 10 * m = omega arith in
+        let c : linkBytes * suc m ≡ linkBytes + linkBytes * m = omega arith in
         record {
-          text = rw (c, take-add 10 (10 * m) rest, l .text, a .text, x, y);
+          text = rw (c, take-add linkBytes (linkBytes * m) rest, l .text, a .text, x, y);
           good = λ p q j o w. elim (same? j i) [ inl z ↦ rw (z, ← p, ← q, x, y) (l .follows) | inr d ↦ a .good x′ y′ j (omega arith) (omega arith) ];
           kept = λ j o. (
             a .kept j (omega arith) .0 ∙ getD-set-other au i j u 0 (λ q. omega arith),

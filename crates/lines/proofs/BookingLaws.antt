@@ -1,6 +1,6 @@
 -- What a reader of a booking's line has in hand at each of its returns, and what that says of `bookingOf`.
 -- Assumes nothing.
-use Prim.Native.Nat.{ℕ}
+use Prim.Native.Nat.{ℕ, _-_}
 use mathlib.Core.Path.{_≡_, refl, sym, ap, _∙_}
 use mathlib.Core.List.{List, [], _∷_, _++_}
 use mathlib.Core.Bool.{Bool, true, false, not, cond}
@@ -10,14 +10,14 @@ use lib.Seq.{drop-cons}
 use lib.Dec.{eqb}
 use borrow.Author.Tests.{eq-eqb, ne-eqb, not-true}
 use Rattle.bounded.proofs.Bools.{and-no-r, went}
-use Rattle.decimal.specs.Decimal.{columns, columnsTo, sameBytes, fieldAt, numberAt}
+use Rattle.decimal.specs.Decimal.{columns, columnsTo, sameBytes, fieldAt}
 use Rattle.decimal.specs.declared.Field.{Field}
 use Rattle.decimal.specs.declared.Field.the-variants.{Number, Fault}
 use Rattle.decimal.proofs.Bytes.{same-refl, same-ne}
 use Rattle.decimal.proofs.Fields.{fault-in, number-is, field-then}
 use Rattle.plan.specs.Limits.{isKind}
-use Rattle.lines.specs.Form.{isFramed}
-use Rattle.lines.specs.Booking.{bookingText, kindIn, isBooking, bookingOf}
+use Rattle.lines.specs.Form.{isFramed, bookingBytes}
+use Rattle.lines.specs.Booking.{bookingText, numberIn, kindIn, isBooking, bookingOf}
 use Rattle.lines.specs.declared.Booking.the-variants.{Kind, Malformed, OutOfSequence}
 use Rattle.lines.proofs.FormLaws.{Framed, framed, unframed, begun, ended-at}
 
@@ -25,15 +25,15 @@ use Rattle.lines.proofs.FormLaws.{Framed, framed, unframed, begun, ende
 
 module _ (line : List ℕ) (x : ℕ) where
   text : List ℕ
-  text = bookingText (numberAt 4 1 line) (kindIn line)
+  text = bookingText (numberIn line) (kindIn line)
 
   not-text : (line ≡ text → ⊥) → Malformed ≡ bookingOf line x
   unfolding bookingOf isBooking text
-  not-text h = rw (same-ne line (bookingText (numberAt 4 1 line) (kindIn line)) h)
+  not-text h = rw (same-ne line (bookingText (numberIn line) (kindIn line)) h)
 
-  pub no-frame : (b : Bool) → b ≡ isFramed 66 8 line → not b ≡ true → Malformed ≡ bookingOf line x
+  pub no-frame : (b : Bool) → b ≡ isFramed 66 bookingBytes line → not b ≡ true → Malformed ≡ bookingOf line x
   unfolding text bookingText columns columnsTo isFramed
-  no-frame b e q = not-text (unframed 66 8 line text b e q refl)
+  no-frame b e q = not-text (unframed 66 bookingBytes line text b e q refl)
 
   pub no-number : (f : Field) → f ≡ fieldAt 4 1 line → f ≡ Fault → Malformed ≡ bookingOf line x
   unfolding text bookingText columns columnsTo
@@ -47,27 +47,27 @@ module _ (line : List ℕ) (x : ℕ) where
   unfolding bookingOf isBooking kindIn
   no-kind k e q =
       let o : isKind (getD line 6 0) ≡ false = sym e ∙ not-true k q in
-      rw (and-no-r (sameBytes line (bookingText (numberAt 4 1 line) (getD line 6 0))) (isKind (getD line 6 0)) o)
+      rw (and-no-r (sameBytes line (bookingText (numberIn line) (getD line 6 0))) (isKind (getD line 6 0)) o)
 
 -- ---- of this form
 
-module _ (line : List ℕ) (x : ℕ) (b : Bool) (p : b ≡ isFramed 66 8 line) (q : not b ≡ false) (f : Field) (y : ℕ) (e1 : f ≡ fieldAt 4 1 line) (n1 : f ≡ Number y)
+module _ (line : List ℕ) (x : ℕ) (b : Bool) (p : b ≡ isFramed 66 bookingBytes line) (q : not b ≡ false) (f : Field) (y : ℕ) (e1 : f ≡ fieldAt 4 1 line) (n1 : f ≡ Number y)
     (c : getD line 5 0 ≡ 32) (k : Bool) (e : k ≡ isKind (getD line 6 0)) (r : not k ≡ false) where
   whole : line ≡ bookingText y (getD line 6 0)
   unfolding bookingText
   whole =
-      let d : Framed 66 8 line = framed 66 8 line b p q in
-      let s : line ≡ 66 ∷ drop 1 line = begun 66 8 line (omega arith) d in
+      let d : Framed 66 bookingBytes line = framed 66 bookingBytes line b p q in
+      let s : line ≡ 66 ∷ drop 1 line = begun 66 bookingBytes line (omega arith) d in
       let t : drop 1 line ≡ columns 4 y ++ drop 5 line = field-then 4 1 line f e1 y n1 in
       let u : drop 5 line ≡ getD line 5 0 ∷ drop 6 line = drop-cons line 5 0 (omega (arith, d .size)) in
-      let v : drop 6 line ≡ getD line 6 0 ∷ drop 7 line = drop-cons line 6 0 (omega (arith, d .size)) in
-      let w : drop 7 line ≡ 10 ∷ [] = ended-at 66 7 line d in
+      let v : drop 6 line ≡ getD line 6 0 ∷ drop (bookingBytes - 1) line = drop-cons line 6 0 (omega (arith, d .size)) in
+      let w : drop (bookingBytes - 1) line ≡ 10 ∷ [] = ended-at 66 (bookingBytes - 1) line d in
       s ∙ rw (t, u, c, v, w)
 
   formed : bookingOf line x ≡ cond (eqb y x) (Kind (getD line 6 0)) OutOfSequence
   unfolding bookingOf isBooking kindIn
   formed =
-      let z : y ≡ numberAt 4 1 line = number-is 4 1 line f e1 y n1 in
+      let z : y ≡ numberIn line = number-is 4 1 line f e1 y n1 in
       let s : sameBytes line (bookingText y (getD line 6 0)) ≡ true = rw (← whole) (same-refl line) in
       let m : isKind (getD line 6 0) ≡ true = went e r in
       rw (← z, s, m)

@@ -1,20 +1,20 @@
 -- What a reader of the head line has in hand at each of its returns, and what that says of `headOf`.
 -- Assumes nothing.
-use Prim.Native.Nat.{ℕ}
+use Prim.Native.Nat.{ℕ, _-_}
 use mathlib.Core.Path.{_≡_, refl, _∙_}
 use mathlib.Core.List.{List, [], _∷_, _++_}
 use mathlib.Core.Bool.{Bool, true, false, not}
 use native.Mathlib.Omega.{arith}
 use lib.ListN.{drop}
 use borrow.Author.Tests.{not-true, not-false}
-use Rattle.decimal.specs.Decimal.{columns, columnsTo, sameBytes, fieldAt, numberAt}
+use Rattle.decimal.specs.Decimal.{columns, columnsTo, sameBytes, fieldAt}
 use Rattle.decimal.specs.declared.Field.{Field}
 use Rattle.decimal.specs.declared.Field.the-variants.{Number, Fault}
 use Rattle.decimal.proofs.Bytes.{same-refl, same-ne}
 use Rattle.decimal.proofs.Fields.{fault-in, number-is, field-then}
 use Rattle.plan.specs.Limits.{limits}
-use Rattle.lines.specs.Form.{isFramed}
-use Rattle.lines.specs.Head.{headText, isHead, countsOf, headOf}
+use Rattle.lines.specs.Form.{isFramed, headBytes}
+use Rattle.lines.specs.Head.{headText, bookingCountIn, linkCountIn, wayCountIn, isHead, countsOf, headOf}
 use Rattle.lines.specs.declared.Head.the-variants.{Counts, Malformed, OutOfLimits}
 use Rattle.lines.proofs.FormLaws.{Framed, framed, unframed, begun, ended-at}
 
@@ -22,15 +22,15 @@ use Rattle.lines.proofs.FormLaws.{Framed, framed, unframed, begun, ende
 
 module _ (line : List ℕ) where
   text : List ℕ
-  text = headText (numberAt 4 1 line) (numberAt 4 5 line) (numberAt 4 9 line)
+  text = headText (bookingCountIn line) (linkCountIn line) (wayCountIn line)
 
   not-text : (line ≡ text → ⊥) → Malformed ≡ headOf line
   unfolding headOf isHead text
-  not-text h = rw (same-ne line (headText (numberAt 4 1 line) (numberAt 4 5 line) (numberAt 4 9 line)) h)
+  not-text h = rw (same-ne line (headText (bookingCountIn line) (linkCountIn line) (wayCountIn line)) h)
 
-  pub no-frame : (b : Bool) → b ≡ isFramed 80 14 line → not b ≡ true → Malformed ≡ headOf line
+  pub no-frame : (b : Bool) → b ≡ isFramed 80 headBytes line → not b ≡ true → Malformed ≡ headOf line
   unfolding text headText columns columnsTo isFramed
-  no-frame b e q = not-text (unframed 80 14 line text b e q refl)
+  no-frame b e q = not-text (unframed 80 headBytes line text b e q refl)
 
   pub no-bookings : (f : Field) → f ≡ fieldAt 4 1 line → f ≡ Fault → Malformed ≡ headOf line
   unfolding text headText columns columnsTo
@@ -46,25 +46,25 @@ module _ (line : List ℕ) where
 
 -- ---- of this form
 
-module _ (line : List ℕ) (b : Bool) (p : b ≡ isFramed 80 14 line) (q : not b ≡ false) (f g h : Field) (n m a : ℕ)
+module _ (line : List ℕ) (b : Bool) (p : b ≡ isFramed 80 headBytes line) (q : not b ≡ false) (f g h : Field) (n m a : ℕ)
     (e1 : f ≡ fieldAt 4 1 line) (n1 : f ≡ Number n) (e2 : g ≡ fieldAt 4 5 line) (n2 : g ≡ Number m) (e3 : h ≡ fieldAt 4 9 line) (n3 : h ≡ Number a) where
   whole : line ≡ headText n m a
   unfolding headText
   whole =
-      let r : Framed 80 14 line = framed 80 14 line b p q in
-      let s : line ≡ 80 ∷ drop 1 line = begun 80 14 line (omega arith) r in
+      let r : Framed 80 headBytes line = framed 80 headBytes line b p q in
+      let s : line ≡ 80 ∷ drop 1 line = begun 80 headBytes line (omega arith) r in
       let t : drop 1 line ≡ columns 4 n ++ drop 5 line = field-then 4 1 line f e1 n n1 in
       let u : drop 5 line ≡ columns 4 m ++ drop 9 line = field-then 4 5 line g e2 m n2 in
-      let v : drop 9 line ≡ columns 4 a ++ drop 13 line = field-then 4 9 line h e3 a n3 in
-      let w : drop 13 line ≡ 10 ∷ [] = ended-at 80 13 line r in
+      let v : drop 9 line ≡ columns 4 a ++ drop (headBytes - 1) line = field-then 4 9 line h e3 a n3 in
+      let w : drop (headBytes - 1) line ≡ 10 ∷ [] = ended-at 80 (headBytes - 1) line r in
       s ∙ rw (t, u, v, w)
 
   formed : headOf line ≡ countsOf n m a
   unfolding headOf isHead
   formed =
-      let x : n ≡ numberAt 4 1 line = number-is 4 1 line f e1 n n1 in
-      let y : m ≡ numberAt 4 5 line = number-is 4 5 line g e2 m n2 in
-      let z : a ≡ numberAt 4 9 line = number-is 4 9 line h e3 a n3 in
+      let x : n ≡ bookingCountIn line = number-is 4 1 line f e1 n n1 in
+      let y : m ≡ linkCountIn line = number-is 4 5 line g e2 m n2 in
+      let z : a ≡ wayCountIn line = number-is 4 9 line h e3 a n3 in
       let s : sameBytes line (headText n m a) ≡ true = rw (← whole) (same-refl line) in
       rw (← x, ← y, ← z, s)
 

@@ -7,6 +7,7 @@ use mathlib.Core.List.{List}
 use native.Mathlib.Omega.{arith}
 use lib.ListN.{take, drop, set}
 use lib.Seq.{drop-drop}
+use Rattle.lines.specs.Form.{bookingBytes}
 use Rattle.lines.specs.Booking.{bookingOf}
 use Rattle.lines.specs.Kinds.{afterBooking, kindsOf}
 use Rattle.lines.specs.declared.Booking.{Booking}
@@ -16,20 +17,20 @@ use Rattle.lines.specs.declared.Kinds.{Kinds}
 
 -- one line, and the rest
 step : (n i : ℕ) (rest ks : List ℕ) → i < n
-    → kindsOf (n - i) i rest ks ≡ afterBooking (bookingOf (take 8 rest) (i + 1)) (i + 2) ks (λ k. kindsOf (n - (i + 1)) (i + 1) (drop 8 rest) (set ks i k))
+    → kindsOf (n - i) i rest ks ≡ afterBooking (bookingOf (take bookingBytes rest) (i + 1)) (i + 2) ks (λ k. kindsOf (n - (i + 1)) (i + 1) (drop bookingBytes rest) (set ks i k))
 unfolding kindsOf
 step n i rest ks h =
     let e : n - i ≡ suc (n - (i + 1)) = omega arith in
     rw e
 
-module _ (n at i : ℕ) (s ks line : List ℕ) (b : Booking) (whole : Kinds) (h : i < n) (l : line ≡ take 8 (drop (at + 8 * i) s)) (e : b ≡ bookingOf line (i + 1))
-    (w : kindsOf (n - i) i (drop (at + 8 * i) s) ks ≡ whole) where
-  turned : afterBooking b (i + 2) ks (λ k. kindsOf (n - (i + 1)) (i + 1) (drop (at + 8 * (i + 1)) s) (set ks i k)) ≡ whole
+module _ (n at i : ℕ) (s ks line : List ℕ) (b : Booking) (whole : Kinds) (h : i < n) (l : line ≡ take bookingBytes (drop (at + bookingBytes * i) s)) (e : b ≡ bookingOf line (i + 1))
+    (w : kindsOf (n - i) i (drop (at + bookingBytes * i) s) ks ≡ whole) where
+  turned : afterBooking b (i + 2) ks (λ k. kindsOf (n - (i + 1)) (i + 1) (drop (at + bookingBytes * (i + 1)) s) (set ks i k)) ≡ whole
   turned =
-      let d : at + 8 * i + 8 ≡ at + 8 * (i + 1) = omega arith in
-      rw (e, l, ← d, ← drop-drop 8 (at + 8 * i) s, ← step n i (drop (at + 8 * i) s) ks h) w
+      let d : at + bookingBytes * i + bookingBytes ≡ at + bookingBytes * (i + 1) = omega arith in
+      rw (e, l, ← d, ← drop-drop bookingBytes (at + bookingBytes * i) s, ← step n i (drop (at + bookingBytes * i) s) ks h) w
 
-  pub went-on : (k : ℕ) → b ≡ Kind k → kindsOf (n - (i + 1)) (i + 1) (drop (at + 8 * (i + 1)) s) (set ks i k) ≡ whole
+  pub went-on : (k : ℕ) → b ≡ Kind k → kindsOf (n - (i + 1)) (i + 1) (drop (at + bookingBytes * (i + 1)) s) (set ks i k) ≡ whole
   went-on k g = rw g at turned
 
   pub ill-formed : b ≡ Malformed → record { judged = Form (i + 2); kind = ks } ≡ whole

@@ -7,30 +7,31 @@ use native.Mathlib.Omega.{arith}
 use lib.ListN.{length, length-append}
 use Rattle.decimal.specs.Decimal.{columns, columnsTo}
 use Rattle.plan.specs.Limits.{mostBookings, mostLinks}
+use Rattle.lines.specs.Form.{headBytes, bookingBytes, linkBytes}
 use Rattle.lines.specs.Head.{headText}
 use Rattle.lines.specs.Booking.{bookingText}
 use Rattle.lines.specs.Link.{linkText}
 use Rattle.lines.specs.Kinds.{kindsText, noKinds}
 use Rattle.lines.specs.Links.{linksText, noLinks}
 
-pub head-length : (n m a : ℕ) → length (headText n m a) ≡ 14
+pub head-length : (n m a : ℕ) → length (headText n m a) ≡ headBytes
 unfolding headText columns columnsTo
 head-length n m a = refl
 
-pub booking-length : (x k : ℕ) → length (bookingText x k) ≡ 8
+pub booking-length : (x k : ℕ) → length (bookingText x k) ≡ bookingBytes
 unfolding bookingText columns columnsTo
 booking-length x k = refl
 
-pub link-length : (u v : ℕ) → length (linkText u v) ≡ 10
+pub link-length : (u v : ℕ) → length (linkText u v) ≡ linkBytes
 unfolding linkText columns columnsTo
 link-length u v = refl
 
-pub kinds-length : (n i : ℕ) (ks : List ℕ) → length (kindsText n i ks) ≡ 8 * n
+pub kinds-length : (n i : ℕ) (ks : List ℕ) → length (kindsText n i ks) ≡ bookingBytes * n
 unfolding kindsText
 kinds-length zero i ks = refl
 kinds-length (suc n) i ks = rw (length-append, booking-length, kinds-length n (i + 1) ks) (omega arith)
 
-pub links-length : (m i : ℕ) (us vs : List ℕ) → length (linksText m i us vs) ≡ 10 * m
+pub links-length : (m i : ℕ) (us vs : List ℕ) → length (linksText m i us vs) ≡ linkBytes * m
 unfolding linksText
 links-length zero i us vs = refl
 links-length (suc m) i us vs = rw (length-append, link-length, links-length m (i + 1) us vs) (omega arith)

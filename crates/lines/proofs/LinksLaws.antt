@@ -7,6 +7,7 @@ use mathlib.Core.List.{List}
 use native.Mathlib.Omega.{arith}
 use lib.ListN.{take, drop, set}
 use lib.Seq.{drop-drop}
+use Rattle.lines.specs.Form.{linkBytes}
 use Rattle.lines.specs.Link.{linkOf}
 use Rattle.lines.specs.Links.{afterLink, linksOf}
 use Rattle.lines.specs.declared.Link.{Link}
@@ -14,22 +15,22 @@ use Rattle.lines.specs.declared.Link.the-variants.{Pair, Malformed, OutO
 use Rattle.plan.specs.declared.Judged.the-variants.{Fine, Form, Sequence}
 use Rattle.lines.specs.declared.Links.{Links}
 
-step : (n m i : ℕ) (rest : List ℕ) (pu pv : ℕ) (us vs : List ℕ) → i < m
-    → linksOf n (m - i) i rest pu pv us vs
-    ≡ afterLink (linkOf (take 10 rest) n pu pv) (n + 2 + i) us vs (λ u v. linksOf n (m - (i + 1)) (i + 1) (drop 10 rest) u v (set us i u) (set vs i v))
+step : (n m i : ℕ) (rest : List ℕ) (lastFrom lastTo : ℕ) (us vs : List ℕ) → i < m
+    → linksOf n (m - i) i rest lastFrom lastTo us vs
+    ≡ afterLink (linkOf (take linkBytes rest) n lastFrom lastTo) (n + 2 + i) us vs (λ u v. linksOf n (m - (i + 1)) (i + 1) (drop linkBytes rest) u v (set us i u) (set vs i v))
 unfolding linksOf
-step n m i rest pu pv us vs h =
+step n m i rest lastFrom lastTo us vs h =
     let e : m - i ≡ suc (m - (i + 1)) = omega arith in
     rw e
 
-module _ (n m at i : ℕ) (s : List ℕ) (pu pv : ℕ) (us vs line : List ℕ) (b : Link) (whole : Links) (h : i < m) (l : line ≡ take 10 (drop (at + 10 * i) s))
-    (e : b ≡ linkOf line n pu pv) (w : linksOf n (m - i) i (drop (at + 10 * i) s) pu pv us vs ≡ whole) where
-  turned : afterLink b (n + 2 + i) us vs (λ u v. linksOf n (m - (i + 1)) (i + 1) (drop (at + 10 * (i + 1)) s) u v (set us i u) (set vs i v)) ≡ whole
+module _ (n m at i : ℕ) (s : List ℕ) (lastFrom lastTo : ℕ) (us vs line : List ℕ) (b : Link) (whole : Links) (h : i < m) (l : line ≡ take linkBytes (drop (at + linkBytes * i) s))
+    (e : b ≡ linkOf line n lastFrom lastTo) (w : linksOf n (m - i) i (drop (at + linkBytes * i) s) lastFrom lastTo us vs ≡ whole) where
+  turned : afterLink b (n + 2 + i) us vs (λ u v. linksOf n (m - (i + 1)) (i + 1) (drop (at + linkBytes * (i + 1)) s) u v (set us i u) (set vs i v)) ≡ whole
   turned =
-      let d : at + 10 * i + 10 ≡ at + 10 * (i + 1) = omega arith in
-      rw (e, l, ← d, ← drop-drop 10 (at + 10 * i) s, ← step n m i (drop (at + 10 * i) s) pu pv us vs h) w
+      let d : at + linkBytes * i + linkBytes ≡ at + linkBytes * (i + 1) = omega arith in
+      rw (e, l, ← d, ← drop-drop linkBytes (at + linkBytes * i) s, ← step n m i (drop (at + linkBytes * i) s) lastFrom lastTo us vs h) w
 
-  pub went-on : (u v : ℕ) → b ≡ Pair u v → linksOf n (m - (i + 1)) (i + 1) (drop (at + 10 * (i + 1)) s) u v (set us i u) (set vs i v) ≡ whole
+  pub went-on : (u v : ℕ) → b ≡ Pair u v → linksOf n (m - (i + 1)) (i + 1) (drop (at + linkBytes * (i + 1)) s) u v (set us i u) (set vs i v) ≡ whole
   went-on u v g = rw g at turned
 
   pub ill-formed : b ≡ Malformed → record { judged = Form (n + 2 + i); from = us; to = vs } ≡ whole
@@ -38,9 +39,9 @@ module _ (n m at i : ℕ) (s : List ℕ) (pu pv : ℕ) (us vs line : List ℕ) (
   pub out-of-sequence : b ≡ OutOfSequence → record { judged = Sequence (n + 2 + i); from = us; to = vs } ≡ whole
   out-of-sequence g = rw g at turned
 
-pub ended : (n m i : ℕ) (rest : List ℕ) (pu pv : ℕ) (us vs : List ℕ) (whole : Links) → m ≤ i → linksOf n (m - i) i rest pu pv us vs ≡ whole
+pub ended : (n m i : ℕ) (rest : List ℕ) (lastFrom lastTo : ℕ) (us vs : List ℕ) (whole : Links) → m ≤ i → linksOf n (m - i) i rest lastFrom lastTo us vs ≡ whole
     → record { judged = Fine; from = us; to = vs } ≡ whole
 unfolding linksOf
-ended n m i rest pu pv us vs whole h w =
+ended n m i rest lastFrom lastTo us vs whole h w =
     let e : m - i ≡ 0 = omega arith in
     rw e at w

@@ -5,6 +5,7 @@ use Prim.Native.Nat.{ℕ, zero, suc, _+_, _≤_}
 use native.Mathlib.Omega.{arith}
 use lib.ListN.{take, drop, set}
 use Rattle.plan.specs.Judging.{judgedPlace}
+use Rattle.lines.specs.Form.{bookingBytes, linkBytes}
 use Rattle.lines.specs.Kinds.{afterBooking, kindsOf}
 use Rattle.lines.specs.Booking.{bookingOf}
 use Rattle.lines.specs.Links.{afterLink, linksOf}
@@ -25,17 +26,17 @@ pub kinds-small : (more i : ℕ) (rest ks : List ℕ) → judgedPlace (kindsOf m
 unfolding kindsOf
 kinds-small zero i rest ks = omega arith
 kinds-small (suc more) i rest ks =
-    kinds-next (bookingOf (take 8 rest) (i + 1)) (i + 2) (i + suc more + 1) ks _ (omega arith)
-    (λ k. omega (arith, kinds-small more (i + 1) (drop 8 rest) (set ks i k)))
+    kinds-next (bookingOf (take bookingBytes rest) (i + 1)) (i + 2) (i + suc more + 1) ks _ (omega arith)
+    (λ k. omega (arith, kinds-small more (i + 1) (drop bookingBytes rest) (set ks i k)))
 
 links-next : (b : Link) (l m : ℕ) (us vs : List ℕ) (f : ℕ → ℕ → Links) → l ≤ m → ((u v : ℕ) → judgedPlace (f u v .judged) ≤ m) → judgedPlace (afterLink b l us vs f .judged) ≤ m
 links-next (L.Pair u v) l m us vs f h n = n u v
 links-next L.Malformed l m us vs f h n = h
 links-next L.OutOfSequence l m us vs f h n = h
 
-pub links-small : (n more i : ℕ) (rest : List ℕ) (pu pv : ℕ) (us vs : List ℕ) → judgedPlace (linksOf n more i rest pu pv us vs .judged) ≤ n + 1 + i + more
+pub links-small : (n more i : ℕ) (rest : List ℕ) (lastFrom lastTo : ℕ) (us vs : List ℕ) → judgedPlace (linksOf n more i rest lastFrom lastTo us vs .judged) ≤ n + 1 + i + more
 unfolding linksOf
-links-small n zero i rest pu pv us vs = omega arith
-links-small n (suc more) i rest pu pv us vs =
-    links-next (linkOf (take 10 rest) n pu pv) (n + 2 + i) (n + 1 + i + suc more) us vs _ (omega arith)
-    (λ u v. omega (arith, links-small n more (i + 1) (drop 10 rest) u v (set us i u) (set vs i v)))
+links-small n zero i rest lastFrom lastTo us vs = omega arith
+links-small n (suc more) i rest lastFrom lastTo us vs =
+    links-next (linkOf (take linkBytes rest) n lastFrom lastTo) (n + 2 + i) (n + 1 + i + suc more) us vs _ (omega arith)
+    (λ u v. omega (arith, links-small n more (i + 1) (drop linkBytes rest) u v (set us i u) (set vs i v)))

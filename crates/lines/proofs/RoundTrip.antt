@@ -8,14 +8,14 @@ use native.Mathlib.Omega.{arith}
 use lib.Dec.{eqb}
 use borrow.Author.Tests.{eq-eqb, eqb-true}
 use Rattle.bounded.proofs.Bools.{clash}
-use Rattle.decimal.specs.Decimal.{columns, columnsTo, sameBytes, numberAt}
+use Rattle.decimal.specs.Decimal.{columns, columnsTo, sameBytes}
 use Rattle.decimal.proofs.Bytes.{same-refl, same-eq}
 use Rattle.decimal.proofs.Fields.{number-in}
 use Rattle.plan.specs.Limits.{isKind, limits, inSequence}
 use Rattle.plan.proofs.LimitLaws.{Limited, limited, sequenced}
-use Rattle.lines.specs.Head.{headText, isHead, countsOf, headOf}
-use Rattle.lines.specs.Booking.{bookingText, kindIn, isBooking, bookingOf}
-use Rattle.lines.specs.Link.{linkText, isLink, pairOf, linkOf}
+use Rattle.lines.specs.Head.{headText, bookingCountIn, linkCountIn, wayCountIn, isHead, countsOf, headOf}
+use Rattle.lines.specs.Booking.{bookingText, numberIn, kindIn, isBooking, bookingOf}
+use Rattle.lines.specs.Link.{linkText, fromIn, toIn, isLink, pairOf, linkOf}
 use Rattle.lines.specs.declared.Head.{Head}
 use Rattle.lines.specs.declared.Head.the-variants as H
 use Rattle.lines.specs.declared.Booking.the-variants as B
@@ -24,15 +24,15 @@ use Rattle.lines.specs.declared.Link.the-variants as L
 -- ---- the head
 
 module _ (n m a : ℕ) where
-  first : n < 10 ^ 4 → numberAt 4 1 (headText n m a) ≡ n
+  first : n < 10 ^ 4 → bookingCountIn (headText n m a) ≡ n
   unfolding headText columns columnsTo
   first h = number-in 4 1 n (headText n m a) h refl
 
-  second : m < 10 ^ 4 → numberAt 4 5 (headText n m a) ≡ m
+  second : m < 10 ^ 4 → linkCountIn (headText n m a) ≡ m
   unfolding headText columns columnsTo
   second h = number-in 4 5 m (headText n m a) h refl
 
-  third : a < 10 ^ 4 → numberAt 4 9 (headText n m a) ≡ a
+  third : a < 10 ^ 4 → wayCountIn (headText n m a) ≡ a
   unfolding headText columns columnsTo
   third h = number-in 4 9 a (headText n m a) h refl
 
@@ -49,16 +49,16 @@ pub record HeadIs (line : List ℕ) (n m a : ℕ) : Type 0 where
 pub head-accepted : (line : List ℕ) (n m a : ℕ) → headOf line ≡ H.Counts n m a → HeadIs line n m a
 unfolding headOf isHead countsOf
 head-accepted line n m a =
-    go (sameBytes line (headText (numberAt 4 1 line) (numberAt 4 5 line) (numberAt 4 9 line))) (limits (numberAt 4 1 line) (numberAt 4 5 line) (numberAt 4 9 line))
+    go (sameBytes line (headText (bookingCountIn line) (linkCountIn line) (wayCountIn line))) (limits (bookingCountIn line) (linkCountIn line) (wayCountIn line))
     (same-eq _ _) refl
   where
-    go : (b c : Bool) → (b ≡ true → line ≡ headText (numberAt 4 1 line) (numberAt 4 5 line) (numberAt 4 9 line))
-        → limits (numberAt 4 1 line) (numberAt 4 5 line) (numberAt 4 9 line) ≡ c
-        → cond b (cond c (H.Counts (numberAt 4 1 line) (numberAt 4 5 line) (numberAt 4 9 line)) H.OutOfLimits) H.Malformed ≡ H.Counts n m a → HeadIs line n m a
+    go : (b c : Bool) → (b ≡ true → line ≡ headText (bookingCountIn line) (linkCountIn line) (wayCountIn line))
+        → limits (bookingCountIn line) (linkCountIn line) (wayCountIn line) ≡ c
+        → cond b (cond c (H.Counts (bookingCountIn line) (linkCountIn line) (wayCountIn line)) H.OutOfLimits) H.Malformed ≡ H.Counts n m a → HeadIs line n m a
     go true true h l e =
-        let x : numberAt 4 1 line ≡ n = cc in
-        let y : numberAt 4 5 line ≡ m = cc in
-        let z : numberAt 4 9 line ≡ a = cc in
+        let x : bookingCountIn line ≡ n = cc in
+        let y : linkCountIn line ≡ m = cc in
+        let z : wayCountIn line ≡ a = cc in
         record { text = h refl ∙ rw (x, y, z); fit = rw (x, y, z) at l }
     go true false h l e = clash true refl cc
     go false c h l e = clash true refl cc
@@ -69,7 +69,7 @@ head-limits line h n m a e g = limited n m a (head-accepted line n m a (sym e �
 
 -- ---- a booking
 
-its-number : (x k : ℕ) → x < 10 ^ 4 → numberAt 4 1 (bookingText x k) ≡ x
+its-number : (x k : ℕ) → x < 10 ^ 4 → numberIn (bookingText x k) ≡ x
 unfolding bookingText columns columnsTo
 its-number x k h = number-in 4 1 x (bookingText x k) h refl
 
@@ -88,9 +88,9 @@ pub record BookingIs (line : List ℕ) (x k : ℕ) : Type 0 where
 pub booking-accepted : (line : List ℕ) (x k : ℕ) → bookingOf line x ≡ B.Kind k → BookingIs line x k
 unfolding bookingOf isBooking
 booking-accepted line x k =
-    go (sameBytes line (bookingText (numberAt 4 1 line) (kindIn line))) (isKind (kindIn line)) (eqb (numberAt 4 1 line) x) (same-eq _ _) refl (eqb-true _ _)
+    go (sameBytes line (bookingText (numberIn line) (kindIn line))) (isKind (kindIn line)) (eqb (numberIn line) x) (same-eq _ _) refl (eqb-true _ _)
   where
-    go : (b c d : Bool) → (b ≡ true → line ≡ bookingText (numberAt 4 1 line) (kindIn line)) → isKind (kindIn line) ≡ c → (d ≡ true → numberAt 4 1 line ≡ x)
+    go : (b c d : Bool) → (b ≡ true → line ≡ bookingText (numberIn line) (kindIn line)) → isKind (kindIn line) ≡ c → (d ≡ true → numberIn line ≡ x)
         → cond (b && c) (cond d (B.Kind (kindIn line)) B.OutOfSequence) B.Malformed ≡ B.Kind k → BookingIs line x k
     go true true true h l g e =
         let y : kindIn line ≡ k = cc in
@@ -101,35 +101,35 @@ booking-accepted line x k =
 
 -- ---- a link
 
-module _ (n pu pv u v : ℕ) where
-  from-in : u < 10 ^ 4 → numberAt 4 1 (linkText u v) ≡ u
+module _ (n lastFrom lastTo u v : ℕ) where
+  from-in : u < 10 ^ 4 → fromIn (linkText u v) ≡ u
   unfolding linkText columns columnsTo
   from-in h = number-in 4 1 u (linkText u v) h refl
 
-  to-in : v < 10 ^ 4 → numberAt 4 5 (linkText u v) ≡ v
+  to-in : v < 10 ^ 4 → toIn (linkText u v) ≡ v
   unfolding linkText columns columnsTo
   to-in h = number-in 4 5 v (linkText u v) h refl
 
-  pub link-read : n < 10 ^ 4 → inSequence n pu pv u v ≡ true → linkOf (linkText u v) n pu pv ≡ L.Pair u v
+  pub link-read : n < 10 ^ 4 → inSequence n lastFrom lastTo u v ≡ true → linkOf (linkText u v) n lastFrom lastTo ≡ L.Pair u v
   unfolding linkOf isLink pairOf
   link-read h e =
-      let b = sequenced n pu pv u v e in
+      let b = sequenced n lastFrom lastTo u v e in
       rw (from-in (omega arith), to-in (omega arith), same-refl (linkText u v), e)
 
-pub record LinkIs (line : List ℕ) (n pu pv u v : ℕ) : Type 0 where
+pub record LinkIs (line : List ℕ) (n lastFrom lastTo u v : ℕ) : Type 0 where
   pub text : line ≡ linkText u v
-  pub follows : inSequence n pu pv u v ≡ true
+  pub follows : inSequence n lastFrom lastTo u v ≡ true
 
-pub link-accepted : (line : List ℕ) (n pu pv u v : ℕ) → linkOf line n pu pv ≡ L.Pair u v → LinkIs line n pu pv u v
+pub link-accepted : (line : List ℕ) (n lastFrom lastTo u v : ℕ) → linkOf line n lastFrom lastTo ≡ L.Pair u v → LinkIs line n lastFrom lastTo u v
 unfolding linkOf isLink pairOf
-link-accepted line n pu pv u v =
-    go (sameBytes line (linkText (numberAt 4 1 line) (numberAt 4 5 line))) (inSequence n pu pv (numberAt 4 1 line) (numberAt 4 5 line)) (same-eq _ _) refl
+link-accepted line n lastFrom lastTo u v =
+    go (sameBytes line (linkText (fromIn line) (toIn line))) (inSequence n lastFrom lastTo (fromIn line) (toIn line)) (same-eq _ _) refl
   where
-    go : (b c : Bool) → (b ≡ true → line ≡ linkText (numberAt 4 1 line) (numberAt 4 5 line)) → inSequence n pu pv (numberAt 4 1 line) (numberAt 4 5 line) ≡ c
-        → cond b (cond c (L.Pair (numberAt 4 1 line) (numberAt 4 5 line)) L.OutOfSequence) L.Malformed ≡ L.Pair u v → LinkIs line n pu pv u v
+    go : (b c : Bool) → (b ≡ true → line ≡ linkText (fromIn line) (toIn line)) → inSequence n lastFrom lastTo (fromIn line) (toIn line) ≡ c
+        → cond b (cond c (L.Pair (fromIn line) (toIn line)) L.OutOfSequence) L.Malformed ≡ L.Pair u v → LinkIs line n lastFrom lastTo u v
     go true true h l e =
-        let x : numberAt 4 1 line ≡ u = cc in
-        let y : numberAt 4 5 line ≡ v = cc in
+        let x : fromIn line ≡ u = cc in
+        let y : toIn line ≡ v = cc in
         record { text = h refl ∙ rw (x, y); follows = rw (x, y) at l }
     go true false h l e = clash true refl cc
     go false c h l e = clash true refl cc

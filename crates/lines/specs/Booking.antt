@@ -14,14 +14,17 @@ use Rattle.lines.specs.declared.Booking.the-variants.{Kind, Malformed, O
 unfoldable pub bookingText : ℕ → ℕ → List ℕ
 bookingText x k = 66 ∷ (columns 4 x ++ (32 ∷ k ∷ 10 ∷ []))
 
--- the byte of the kind
+-- the number and the byte of the kind at the columns of a line
+abbrev pub numberIn : List ℕ → ℕ
+numberIn line = numberAt 4 1 line
+
 unfoldable pub kindIn : List ℕ → ℕ
 kindIn line = getD line 6 0
 
--- a line is of this form if it is the text of the number and the kind at its columns
+-- a line is of this form if it is the text of these two
 unfoldable pub isBooking : List ℕ → Bool
-isBooking line = sameBytes line (bookingText (numberAt 4 1 line) (kindIn line)) && isKind (kindIn line)
+isBooking line = sameBytes line (bookingText (numberIn line) (kindIn line)) && isKind (kindIn line)
 
 -- what a line holds that stands where booking x has its line
 unfoldable pub bookingOf : List ℕ → ℕ → Booking
-bookingOf line x = cond (isBooking line) (cond (eqb (numberAt 4 1 line) x) (Kind (kindIn line)) OutOfSequence) Malformed
+bookingOf line x = cond (isBooking line) (cond (eqb (numberIn line) x) (Kind (kindIn line)) OutOfSequence) Malformed

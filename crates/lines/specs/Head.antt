@@ -11,9 +11,19 @@ use Rattle.lines.specs.declared.Head.the-variants.{Counts, Malformed, Ou
 unfoldable pub headText : ℕ → ℕ → ℕ → List ℕ
 headText n m a = 80 ∷ (columns 4 n ++ (columns 4 m ++ (columns 4 a ++ (10 ∷ []))))
 
--- a line is of this form if it is the text of the numbers at its columns
+-- the counts at the columns of a line
+abbrev pub bookingCountIn : List ℕ → ℕ
+bookingCountIn line = numberAt 4 1 line
+
+abbrev pub linkCountIn : List ℕ → ℕ
+linkCountIn line = numberAt 4 5 line
+
+abbrev pub wayCountIn : List ℕ → ℕ
+wayCountIn line = numberAt 4 9 line
+
+-- a line is of this form if it is the text of these counts
 unfoldable pub isHead : List ℕ → Bool
-isHead line = sameBytes line (headText (numberAt 4 1 line) (numberAt 4 5 line) (numberAt 4 9 line))
+isHead line = sameBytes line (headText (bookingCountIn line) (linkCountIn line) (wayCountIn line))
 
 -- the counts of a line of this form, if they are within the limits
 unfoldable pub countsOf : ℕ → ℕ → ℕ → Head
@@ -21,4 +31,4 @@ countsOf n m a = cond (limits n m a) (Counts n m a) OutOfLimits
 
 -- what a line holds that stands first
 unfoldable pub headOf : List ℕ → Head
-headOf line = cond (isHead line) (countsOf (numberAt 4 1 line) (numberAt 4 5 line) (numberAt 4 9 line)) Malformed
+headOf line = cond (isHead line) (countsOf (bookingCountIn line) (linkCountIn line) (wayCountIn line)) Malformed

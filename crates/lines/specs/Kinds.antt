@@ -4,6 +4,7 @@ use Prim.Native.Nat.{ℕ, zero, suc, _+_}
 use mathlib.Core.List.{List, [], _++_}
 use lib.ListN.{getD, take, drop, set, replicate}
 use Rattle.plan.specs.Limits.{mostBookings}
+use Rattle.lines.specs.Form.{bookingBytes}
 use Rattle.lines.specs.Booking.{bookingText, bookingOf}
 use Rattle.lines.specs.declared.Booking.{Booking}
 use Rattle.lines.specs.declared.Booking.the-variants.{Kind, Malformed, OutOfSequence}
@@ -25,7 +26,7 @@ afterBooking OutOfSequence l ks next = record { judged = Sequence l; kind = ks }
 unfoldable pub kindsOf : ℕ → ℕ → List ℕ → List ℕ → Kinds
 kindsOf zero i rest ks = record { judged = Fine; kind = ks }
 kindsOf (suc more) i rest ks =
-    afterBooking (bookingOf (take 8 rest) (i + 1)) (i + 2) ks (λ k. kindsOf more (i + 1) (drop 8 rest) (set ks i k))
+    afterBooking (bookingOf (take bookingBytes rest) (i + 1)) (i + 2) ks (λ k. kindsOf more (i + 1) (drop bookingBytes rest) (set ks i k))
 
 -- no kind yet
 unfoldable pub noKinds : List ℕ

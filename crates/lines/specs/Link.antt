@@ -11,14 +11,21 @@ use Rattle.lines.specs.declared.Link.the-variants.{Pair, Malformed, OutO
 unfoldable pub linkText : ℕ → ℕ → List ℕ
 linkText u v = 76 ∷ (columns 4 u ++ (columns 4 v ++ (10 ∷ [])))
 
--- a line is of this form if it is the text of the numbers at its columns
+-- the two bookings at the columns of a line
+abbrev pub fromIn : List ℕ → ℕ
+fromIn line = numberAt 4 1 line
+
+abbrev pub toIn : List ℕ → ℕ
+toIn line = numberAt 4 5 line
+
+-- a line is of this form if it is the text of these two
 unfoldable pub isLink : List ℕ → Bool
-isLink line = sameBytes line (linkText (numberAt 4 1 line) (numberAt 4 5 line))
+isLink line = sameBytes line (linkText (fromIn line) (toIn line))
 
 -- the pair of a line of this form, if it is in sequence
 unfoldable pub pairOf : ℕ → ℕ → ℕ → ℕ → ℕ → Link
-pairOf n pu pv u v = cond (inSequence n pu pv u v) (Pair u v) OutOfSequence
+pairOf n lastFrom lastTo u v = cond (inSequence n lastFrom lastTo u v) (Pair u v) OutOfSequence
 
--- what a line holds that stands after the link from pu to pv, in a plan of n bookings
+-- what a line holds that stands after the link from lastFrom to lastTo, in a plan of n bookings
 unfoldable pub linkOf : List ℕ → ℕ → ℕ → ℕ → Link
-linkOf line n pu pv = cond (isLink line) (pairOf n pu pv (numberAt 4 1 line) (numberAt 4 5 line)) Malformed
+linkOf line n lastFrom lastTo = cond (isLink line) (pairOf n lastFrom lastTo (fromIn line) (toIn line)) Malformed

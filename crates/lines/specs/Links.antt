@@ -4,6 +4,7 @@ use Prim.Native.Nat.{ℕ, zero, suc, _+_}
 use mathlib.Core.List.{List, [], _++_}
 use lib.ListN.{getD, take, drop, set, replicate}
 use Rattle.plan.specs.Limits.{mostLinks}
+use Rattle.lines.specs.Form.{linkBytes}
 use Rattle.lines.specs.Link.{linkText, linkOf}
 use Rattle.lines.specs.declared.Link.{Link}
 use Rattle.lines.specs.declared.Link.the-variants.{Pair, Malformed, OutOfSequence}
@@ -21,11 +22,11 @@ afterLink (Pair u v) l us vs next = next u v
 afterLink Malformed l us vs next = record { judged = Form l; from = us; to = vs }
 afterLink OutOfSequence l us vs next = record { judged = Sequence l; from = us; to = vs }
 
--- the links that so many lines of the rest of a sheet give, from the link at index i on, after the link from pu to pv
+-- the links that so many lines of the rest of a sheet give, from the link at index i on, after the link from lastFrom to lastTo
 unfoldable pub linksOf : ℕ → ℕ → ℕ → List ℕ → ℕ → ℕ → List ℕ → List ℕ → Links
-linksOf n zero i rest pu pv us vs = record { judged = Fine; from = us; to = vs }
-linksOf n (suc more) i rest pu pv us vs =
-    afterLink (linkOf (take 10 rest) n pu pv) (n + 2 + i) us vs (λ u v. linksOf n more (i + 1) (drop 10 rest) u v (set us i u) (set vs i v))
+linksOf n zero i rest lastFrom lastTo us vs = record { judged = Fine; from = us; to = vs }
+linksOf n (suc more) i rest lastFrom lastTo us vs =
+    afterLink (linkOf (take linkBytes rest) n lastFrom lastTo) (n + 2 + i) us vs (λ u v. linksOf n more (i + 1) (drop linkBytes rest) u v (set us i u) (set vs i v))
 
 -- no link yet
 unfoldable pub noLinks : List ℕ

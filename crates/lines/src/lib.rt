@@ -5,12 +5,21 @@ ghost use mathlib.Core.Path.{_≡_};
 ghost use Prim.Native.Nat.{_≤_, _<_};
 ghost use lib.ListN.{drop};
 ghost use Rattle.plan.specs.Limits.{mostBookings, mostLinks};
-ghost use Rattle.lines.specs.Form.{isFramed};
+ghost use Rattle.lines.specs.Form.{linksPlace, waysPlace, isFramed};
 ghost use Rattle.lines.specs.Head.{headOf};
 ghost use Rattle.lines.specs.Booking.{bookingOf};
 ghost use Rattle.lines.specs.Link.{linkOf};
 ghost use Rattle.lines.specs.Kinds.{kindsOf, noKinds};
 ghost use Rattle.lines.specs.Links.{linksOf, noLinks};
+
+// How many bytes the head has, its line feed included.
+pub const HEAD_BYTES: usize = 14;
+
+// How many bytes a booking's line has.
+pub const BOOKING_BYTES: usize = 8;
+
+// How many bytes a link's line has.
+pub const LINK_BYTES: usize = 10;
 
 // What the head line holds: the counts of bookings, links and ways, or why it is refused.
 pub enum Head {
@@ -46,6 +55,22 @@ pub struct Links {
     pub to: [u8; 512],
 }
 
+// Where the links of a sheet begin, after n bookings.
+pub fn links_place(n: usize) -> usize
+    requires { ⌜ n ≤ mostBookings ⌝ }
+    ensures { λ r. ⌜ r ≡ linksPlace n ⌝ }
+{
+    HEAD_BYTES + BOOKING_BYTES * n
+}
+
+// Where the ways of a sheet begin, after n bookings and m links.
+pub fn ways_place(n: usize, m: usize) -> usize
+    requires { ⌜ (n ≤ mostBookings) × (m ≤ mostLinks) ⌝ }
+    ensures { λ r. ⌜ r ≡ waysPlace n m ⌝ }
+{
+    links_place(n) + LINK_BYTES * m
+}
+
 // Whether a line has w bytes, begins with a letter and ends in a line feed.
 fn is_framed(line: &[u8], letter: u8, w: usize) -> bool
     requires { ⌜ 1 ≤ w ⌝ }
@@ -64,7 +89,7 @@ fn is_framed(line: &[u8], letter: u8, w: usize) -> bool
 pub fn read_head(line: &[u8]) -> Head
     ensures { λ r. ⌜ r ≡ headOf (now (line .entry)) ⌝ }
 {
-    if !is_framed(line, b'P', 14) {
+    if !is_framed(line, b'P', HEAD_BYTES) {
         return Head::Malformed;
     }
     let Field::Number(n) = decimal::field_at(line, 1, 4) else {
@@ -86,7 +111,7 @@ pub fn read_head(line: &[u8]) -> Head
 pub fn read_booking(line: &[u8], x: usize) -> Booking
     ensures { λ r. ⌜ r ≡ bookingOf (now (line .entry)) x ⌝ }
 {
-    if !is_framed(line, b'B', 8) {
+    if !is_framed(line, b'B', BOOKING_BYTES) {
         return Booking::Malformed;
     }
     let Field::Number(y) = decimal::field_at(line, 1, 4) else {
@@ -105,12 +130,12 @@ pub fn read_booking(line: &[u8], x: usize) -> Booking
     Booking::Kind(k)
 }
 
-// Reads a link's line in a plan of n bookings, after the link from pu to pv.
-pub fn read_link(line: &[u8], n: usize, pu: usize, pv: usize) -> Link
+// Reads a link's line in a plan of n bookings, after the link from last_from to last_to.
+pub fn read_link(line: &[u8], n: usize, last_from: usize, last_to: usize) -> Link
     requires { ⌜ n ≤ mostBookings ⌝ }
-    ensures { λ r. ⌜ r ≡ linkOf (now (line .entry)) n pu pv ⌝ }
+    ensures { λ r. ⌜ r ≡ linkOf (now (line .entry)) n «last_from» «last_to» ⌝ }
 {
-    if !is_framed(line, b'L', 10) {
+    if !is_framed(line, b'L', LINK_BYTES) {
         return Link::Malformed;
     }
     let Field::Number(u) = decimal::field_at(line, 1, 4) else {
@@ -119,7 +144,7 @@ pub fn read_link(line: &[u8], n: usize, pu: usize, pv: usize) -> Link
     let Field::Number(v) = decimal::field_at(line, 5, 4) else {
         return Link::Malformed;
     };
-    if !plan::in_sequence(n, pu, pv, u, v) {
+    if !plan::in_sequence(n, last_from, last_to, u, v) {
         return Link::OutOfSequence;
     }
     Link::Pair(u as u8, v as u8)
@@ -133,7 +158,7 @@ pub fn read_kinds(s: &[u8], at: usize, n: usize) -> Kinds
     let mut kind = [0u8; 64];
     let mut i = 0;
     while i < n {
-        let line = decimal::part(s, at + 8 * i, 8);
+        let line = decimal::part(s, at + BOOKING_BYTES * i, BOOKING_BYTES);
         match read_booking(line, i + 1) {
             Booking::Kind(k) => {
                 kind[i] = k;
@@ -173,17 +198,17 @@ pub fn read_links(s: &[u8], at: usize, n: usize, m: usize) -> Links
 {
     let mut from = [0u8; 512];
     let mut to = [0u8; 512];
-    let mut pu = 0;
-    let mut pv = 0;
+    let mut last_from = 0;
+    let mut last_to = 0;
     let mut i = 0;
     while i < m {
-        let line = decimal::part(s, at + 10 * i, 10);
-        match read_link(line, n, pu, pv) {
+        let line = decimal::part(s, at + LINK_BYTES * i, LINK_BYTES);
+        match read_link(line, n, last_from, last_to) {
             Link::Pair(u, v) => {
                 from[i] = u;
                 to[i] = v;
-                pu = u as usize;
-                pv = v as usize;
+                last_from = u as usize;
+                last_to = v as usize;
             }
             Link::Malformed => {
                 return links_so_far(Judged::Form(n + 2 + i), from, to);

@@ -76,31 +76,31 @@ kind-cases k e = elim (or-cases (eqb k 67) _ e) [
 
 -- ---- links
 
-pub rises-cases : (pu pv u v : ℕ) → rises pu pv u v ≡ true → (pu < u) ⊎ ((pu ≡ u) × (pv < v))
+pub rises-cases : (lastFrom lastTo u v : ℕ) → rises lastFrom lastTo u v ≡ true → (lastFrom < u) ⊎ ((lastFrom ≡ u) × (lastTo < v))
 unfolding rises
-rises-cases pu pv u v e = elim (or-cases (ltb pu u) _ e) [
-  | inl l ↦ inl (ltb-true pu u l)
-  | inr q ↦ inr (eqb-true pu u (and-l (eqb pu u) _ q), ltb-true pv v (and-r (eqb pu u) _ q))
+rises-cases lastFrom lastTo u v e = elim (or-cases (ltb lastFrom u) _ e) [
+  | inl l ↦ inl (ltb-true lastFrom u l)
+  | inr q ↦ inr (eqb-true lastFrom u (and-l (eqb lastFrom u) _ q), ltb-true lastTo v (and-r (eqb lastFrom u) _ q))
 ]
 
--- a link between two of the bookings 1 to n, after the link from pu to pv
-pub record Sequenced (n pu pv u v : ℕ) : Type 0 where
+-- a link between two of the bookings 1 to n, after the link from lastFrom to lastTo
+pub record Sequenced (n lastFrom lastTo u v : ℕ) : Type 0 where
   pub start : (1 ≤ u) × (u ≤ n)
   pub end : (1 ≤ v) × (v ≤ n)
-  pub rising : (pu < u) ⊎ ((pu ≡ u) × (pv < v))
+  pub rising : (lastFrom < u) ⊎ ((lastFrom ≡ u) × (lastTo < v))
 
-pub sequenced : (n pu pv u v : ℕ) → inSequence n pu pv u v ≡ true → Sequenced n pu pv u v
+pub sequenced : (n lastFrom lastTo u v : ℕ) → inSequence n lastFrom lastTo u v ≡ true → Sequenced n lastFrom lastTo u v
 unfolding inSequence
-sequenced n pu pv u v e =
+sequenced n lastFrom lastTo u v e =
     let f : within 1 u n ≡ true = and-l (within 1 u n) _ e in
-    let r : within 1 v n && rises pu pv u v ≡ true = and-r (within 1 u n) _ e in
+    let r : within 1 v n && rises lastFrom lastTo u v ≡ true = and-r (within 1 u n) _ e in
     let t : within 1 v n ≡ true = and-l (within 1 v n) _ r in
     record {
       start = (within-lo 1 u n f, within-hi 1 u n f);
       end = (within-lo 1 v n t, within-hi 1 v n t);
-      rising = rises-cases pu pv u v (and-r (within 1 v n) _ r);
+      rising = rises-cases lastFrom lastTo u v (and-r (within 1 v n) _ r);
     }
 
--- past `if !in_sequence(n, pu, pv, u, v) { return .. }`
-pub sequenced-by : (n pu pv u v : ℕ) (k : Bool) → k ≡ inSequence n pu pv u v → not k ≡ false → Sequenced n pu pv u v
-sequenced-by n pu pv u v k e q = sequenced n pu pv u v (went e q)
+-- past `if !in_sequence(n, lastFrom, lastTo, u, v) { return .. }`
+pub sequenced-by : (n lastFrom lastTo u v : ℕ) (k : Bool) → k ≡ inSequence n lastFrom lastTo u v → not k ≡ false → Sequenced n lastFrom lastTo u v
+sequenced-by n lastFrom lastTo u v k e q = sequenced n lastFrom lastTo u v (went e q)

@@ -31,10 +31,10 @@ counted bs ls ws n m a = within 1 n bs && (within 0 m ls && within 1 a ws)
 unfoldable pub limits : ℕ → ℕ → ℕ → Bool
 limits n m a = counted mostBookings mostLinks mostWays n m a
 
--- the link from u to v comes after the link from pu to pv: by its first booking, then by its second
+-- the link from u to v comes after the link from lastFrom to lastTo: by its first booking, then by its second
 unfoldable pub rises : ℕ → ℕ → ℕ → ℕ → Bool
-rises pu pv u v = ltb pu u || (eqb pu u && ltb pv v)
+rises lastFrom lastTo u v = ltb lastFrom u || (eqb lastFrom u && ltb lastTo v)
 
--- a link between two of the bookings 1 to n that comes after the link from pu to pv
+-- a link between two of the bookings 1 to n that comes after the link from lastFrom to lastTo
 unfoldable pub inSequence : ℕ → ℕ → ℕ → ℕ → ℕ → Bool
-inSequence n pu pv u v = within 1 u n && (within 1 v n && rises pu pv u v)
+inSequence n lastFrom lastTo u v = within 1 u n && (within 1 v n && rises lastFrom lastTo u v)

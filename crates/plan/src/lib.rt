@@ -114,22 +114,22 @@ pub fn in_limits(n: usize, m: usize, a: usize) -> bool
     are_counted(64, 512, 16, n, m, a)
 }
 
-// Whether the link from u to v comes after the link from pu to pv.
-fn rises(pu: usize, pv: usize, u: usize, v: usize) -> bool
-    ensures { λ r. ⌜ r ≡ rises pu pv u v ⌝ }
+// Whether the link from u to v comes after the link from last_from to last_to.
+fn rises(last_from: usize, last_to: usize, u: usize, v: usize) -> bool
+    ensures { λ r. ⌜ r ≡ rises «last_from» «last_to» u v ⌝ }
 {
-    if pu < u {
+    if last_from < u {
         return true;
     }
-    if pu != u {
+    if last_from != u {
         return false;
     }
-    pv < v
+    last_to < v
 }
 
-// Whether u and v are bookings of n, and the link between them comes after the link from pu to pv.
-pub fn in_sequence(n: usize, pu: usize, pv: usize, u: usize, v: usize) -> bool
-    ensures { λ r. ⌜ r ≡ inSequence n pu pv u v ⌝ }
+// Whether u and v are bookings of n, and the link between them comes after the link from last_from to last_to.
+pub fn in_sequence(n: usize, last_from: usize, last_to: usize, u: usize, v: usize) -> bool
+    ensures { λ r. ⌜ r ≡ inSequence n «last_from» «last_to» u v ⌝ }
 {
     if !is_within(1, u, n) {
         return false;
@@ -137,7 +137,7 @@ pub fn in_sequence(n: usize, pu: usize, pv: usize, u: usize, v: usize) -> bool
     if !is_within(1, v, n) {
         return false;
     }
-    rises(pu, pv, u, v)
+    rises(last_from, last_to, u, v)
 }
 
 // Whether each of the first n kinds is one.
@@ -160,17 +160,17 @@ fn links_rise(n: usize, m: usize, from: [u8; 512], to: [u8; 512]) -> bool
     requires { ⌜ m ≤ mostLinks ⌝ }
     ensures { λ r. ⌜ r ≡ all (linkAt n from to) m ⌝ }
 {
-    let mut pu = 0;
-    let mut pv = 0;
+    let mut last_from = 0;
+    let mut last_to = 0;
     let mut i = 0;
     while i < m {
         let u = from[i] as usize;
         let v = to[i] as usize;
-        if !in_sequence(n, pu, pv, u, v) {
+        if !in_sequence(n, last_from, last_to, u, v) {
             return false;
         }
-        pu = u;
-        pv = v;
+        last_from = u;
+        last_to = v;
         i += 1;
     }
     true

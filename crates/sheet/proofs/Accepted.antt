@@ -19,6 +19,7 @@ use Rattle.plan.specs.declared.Judgement.the-variants as R
 use Rattle.plan.proofs.LimitLaws.{Limited}
 use Rattle.plan.proofs.Valid.{Valid, valid, fine-i}
 use Rattle.plan.proofs.RecordLaws.{fine-is}
+use Rattle.lines.specs.Form.{headBytes, bookingBytes, linkBytes, linksPlace, waysPlace}
 use Rattle.lines.specs.Head.{headOf}
 use Rattle.lines.specs.Kinds.{kindsText, noKinds}
 use Rattle.lines.specs.Links.{linksText, noLinks}
@@ -30,7 +31,7 @@ use Rattle.lines.proofs.Lengths.{no-kinds-length, no-links-length}
 use Rattle.ways.specs.WayText.{waysText, waysLength, sizeAt}
 use Rattle.ways.specs.Ways.{countsListed}
 use Rattle.ways.proofs.WaysRoundTrip.{Read, all-accepted}
-use Rattle.sheet.specs.Sheet.{linksPlace, waysPlace, kindsIn, linksIn, waysIn, planOf, refusedOf, endOf, bodyOf, sheetOf}
+use Rattle.sheet.specs.Sheet.{kindsIn, linksIn, waysIn, planIn, refusedOf, endOf, bodyOf, sheetOf}
 use Rattle.sheet.specs.Text.{sheetText}
 use Rattle.sheet.specs.declared.Sheet.{Sheet}
 
@@ -40,20 +41,20 @@ record Stages (s : List ℕ) : Type 0 where
   n : ℕ
   m : ℕ
   a : ℕ
-  head : headOf (take 14 s) ≡ H.Counts n m a
+  head : headOf (take headBytes s) ≡ H.Counts n m a
   kinds : kindsIn n s .judged ≡ Fine
   links : linksIn n m s .judged ≡ Fine
   ways : waysIn n m a s .judged ≡ Fine
   end : waysIn n m a s .next ≡ length s
-  read : sheetOf s ≡ record { judged = Fine; plan = planOf n m a s }
+  read : sheetOf s ≡ record { judged = Fine; plan = planIn n m a s }
 
 module _ (s : List ℕ) where
-  body-stages : (n m a : ℕ) → headOf (take 14 s) ≡ H.Counts n m a → (x y z w : Bool) → isFine (kindsIn n s .judged) ≡ x → isFine (linksIn n m s .judged) ≡ y
+  body-stages : (n m a : ℕ) → headOf (take headBytes s) ≡ H.Counts n m a → (x y z w : Bool) → isFine (kindsIn n s .judged) ≡ x → isFine (linksIn n m s .judged) ≡ y
       → isFine (waysIn n m a s .judged) ≡ z → eqb (waysIn n m a s .next) (length s) ≡ w
       → sheetOf s
       ≡ cond x
       (cond y
-      (cond z (cond w (record { judged = Fine; plan = planOf n m a s }) (refusedOf (Form (n + m + a + 2)))) (refusedOf (waysIn n m a s .judged)))
+      (cond z (cond w (record { judged = Fine; plan = planIn n m a s }) (refusedOf (Form (n + m + a + 2)))) (refusedOf (waysIn n m a s .judged)))
       (refusedOf (linksIn n m s .judged)))
       (refusedOf (kindsIn n s .judged))
       → isFine (sheetOf s .judged) ≡ true → Stages s
@@ -76,9 +77,9 @@ module _ (s : List ℕ) where
 
   stages : isFine (sheetOf s .judged) ≡ true → Stages s
   unfolding sheetOf bodyOf endOf refusedOf
-  stages = go (headOf (take 14 s)) refl
+  stages = go (headOf (take headBytes s)) refl
     where
-      go : (h : Head) → headOf (take 14 s) ≡ h → isFine (sheetOf s .judged) ≡ true → Stages s
+      go : (h : Head) → headOf (take headBytes s) ≡ h → isFine (sheetOf s .judged) ≡ true → Stages s
       go (H.Counts n m a) e q =
           body-stages n m a e (isFine (kindsIn n s .judged)) (isFine (linksIn n m s .judged)) (isFine (waysIn n m a s .judged))
           (eqb (waysIn n m a s .next) (length s)) refl refl refl refl (rw e) q
@@ -89,12 +90,12 @@ module _ (s : List ℕ) where
 
 module _ (s : List ℕ) (t : Stages s) where
   fits : Limited (t .n) (t .m) (t .a)
-  fits = head-limits (take 14 s) (headOf (take 14 s)) (t .n) (t .m) (t .a) refl (t .head)
+  fits = head-limits (take headBytes s) (headOf (take headBytes s)) (t .n) (t .m) (t .a) refl (t .head)
 
-  the-kinds : KindsAre (t .n) 0 (drop 14 s) noKinds (kindsIn (t .n) s .kind)
+  the-kinds : KindsAre (t .n) 0 (drop headBytes s) noKinds (kindsIn (t .n) s .kind)
   unfolding kindsIn
   the-kinds =
-      kinds-accepted (t .n) 0 (drop 14 s) noKinds (kindsIn (t .n) s .kind) (omega (arith, no-kinds-length, fits .bookings))
+      kinds-accepted (t .n) 0 (drop headBytes s) noKinds (kindsIn (t .n) s .kind) (omega (arith, no-kinds-length, fits .bookings))
       (ap (λ (j : Judged). record { judged = j; kind = kindsIn (t .n) s .kind }) (t .kinds))
 
   the-links : LinksAre (t .n) (t .m) 0 (drop (linksPlace (t .n)) s) 0 0 noLinks noLinks (linksIn (t .n) (t .m) s .from) (linksIn (t .n) (t .m) s .to)
@@ -115,10 +116,10 @@ module _ (s : List ℕ) (t : Stages s) where
 
   -- ---- its plan has no refusal 2 and no refusal 3
 
-  plan-fine : recordOf (planOf (t .n) (t .m) (t .a) s) ≡ R.Fine
-  unfolding planOf
+  plan-fine : recordOf (planIn (t .n) (t .m) (t .a) s) ≡ R.Fine
+  unfolding planIn
   plan-fine =
-      fine-i (planOf (t .n) (t .m) (t .a) s) fits (λ b h. the-kinds .good b (omega arith) (omega arith))
+      fine-i (planIn (t .n) (t .m) (t .a) s) fits (λ b h. the-kinds .good b (omega arith) (omega arith))
       (λ i h. the-links .good refl refl i (omega arith) (omega arith)) (λ k h. the-ways .writable k h .small) (λ k h. the-ways .writable k h .some)
 
   -- ---- its bytes are the lines of that plan
@@ -133,21 +134,21 @@ module _ (s : List ℕ) (t : Stages s) where
   after-links : drop (linksPlace (t .n)) s
       ≡ linksText (t .m) 0 (linksIn (t .n) (t .m) s .from) (linksIn (t .n) (t .m) s .to) ++ drop (waysPlace (t .n) (t .m)) s
   after-links =
-      sym (take-append-drop (10 * t .m) (drop (linksPlace (t .n)) s)) ∙ rw (the-links .text, drop-drop (10 * t .m) (linksPlace (t .n)) s)
+      sym (take-append-drop (linkBytes * t .m) (drop (linksPlace (t .n)) s)) ∙ rw (the-links .text, drop-drop (linkBytes * t .m) (linksPlace (t .n)) s)
 
-  after-kinds : drop 14 s ≡ kindsText (t .n) 0 (kindsIn (t .n) s .kind) ++ drop (linksPlace (t .n)) s
-  after-kinds = sym (take-append-drop (8 * t .n) (drop 14 s)) ∙ rw (the-kinds .text, drop-drop (8 * t .n) 14 s)
+  after-kinds : drop headBytes s ≡ kindsText (t .n) 0 (kindsIn (t .n) s .kind) ++ drop (linksPlace (t .n)) s
+  after-kinds = sym (take-append-drop (bookingBytes * t .n) (drop headBytes s)) ∙ rw (the-kinds .text, drop-drop (bookingBytes * t .n) headBytes s)
 
-  bytes-are : s ≡ sheetText (planOf (t .n) (t .m) (t .a) s)
-  unfolding sheetText planOf
+  bytes-are : s ≡ sheetText (planIn (t .n) (t .m) (t .a) s)
+  unfolding sheetText planIn
   bytes-are =
-      sym (take-append-drop 14 s)
-      ∙ rw (head-accepted (take 14 s) (t .n) (t .m) (t .a) (t .head) .text, after-kinds, after-links, after-ways)
+      sym (take-append-drop headBytes s)
+      ∙ rw (head-accepted (take headBytes s) (t .n) (t .m) (t .a) (t .head) .text, after-kinds, after-links, after-ways)
 
 -- ---- the theorems
 
 module _ (s : List ℕ) (e : isFine (sheetOf s .judged) ≡ true) where
-  read-plan : planOf (stages s e .n) (stages s e .m) (stages s e .a) s ≡ sheetOf s .plan
+  read-plan : planIn (stages s e .n) (stages s e .m) (stages s e .a) s ≡ sheetOf s .plan
   read-plan = sym (ap (λ (r : Sheet). r .plan) (stages s e .read))
 
   -- the plan of an accepted sheet passes the record's test
@@ -165,5 +166,5 @@ module _ (s : List ℕ) (e : isFine (sheetOf s .judged) ≡ true) where
   -- the counts that its way lines list add up to the sizes of its sets
   pub sheet-counts : countsListed (sheetOf s .plan .a) (drop (waysPlace (sheetOf s .plan .n) (sheetOf s .plan .m)) s)
       ≡ sum (sizeAt (sheetOf s .plan .way)) (sheetOf s .plan .a)
-  unfolding planOf
+  unfolding planIn
   sheet-counts = rw (← read-plan) (the-ways s (stages s e) .counts)

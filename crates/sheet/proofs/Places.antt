@@ -12,6 +12,7 @@ use Rattle.plan.specs.declared.Plan.{Plan}
 use Rattle.plan.specs.declared.Judged.{Judged}
 use Rattle.plan.specs.declared.Judged.the-variants.{Fine, Form}
 use Rattle.plan.proofs.LimitLaws.{Limited}
+use Rattle.lines.specs.Form.{headBytes, linksPlace, waysPlace}
 use Rattle.lines.specs.Head.{headOf}
 use Rattle.lines.specs.Kinds.{noKinds}
 use Rattle.lines.specs.Links.{noLinks}
@@ -21,12 +22,12 @@ use Rattle.lines.proofs.RoundTrip.{head-limits}
 use Rattle.lines.proofs.Places.{kinds-small, links-small}
 use Rattle.ways.specs.Ways.{noWays}
 use Rattle.ways.proofs.Places.{ways-small}
-use Rattle.sheet.specs.Sheet.{linksPlace, waysPlace, kindsIn, linksIn, waysIn, planOf, past, refusedOf, endOf, bodyOf, afterHead, sheetOf}
+use Rattle.sheet.specs.Sheet.{kindsIn, linksIn, waysIn, planIn, past, refusedOf, endOf, bodyOf, afterHead, sheetOf}
 use Rattle.sheet.specs.declared.Sheet.{Sheet}
 
 kinds-in : {m a : ℕ} (n : ℕ) (s : List ℕ) → Limited n m a → judgedPlace (kindsIn n s .judged) < 65536
 unfolding kindsIn
-kinds-in n s l = omega (arith, kinds-small n 0 (drop 14 s) noKinds, l .bookings)
+kinds-in n s l = omega (arith, kinds-small n 0 (drop headBytes s) noKinds, l .bookings)
 
 links-in : {a : ℕ} (n m : ℕ) (s : List ℕ) → Limited n m a → judgedPlace (linksIn n m s .judged) < 65536
 unfolding linksIn
@@ -52,8 +53,8 @@ past-small j r h n = by-cond Small-sheet {t = isFine j} {a = r} {b = refusedOf j
 end-small : (n m a : ℕ) (s : List ℕ) → Limited n m a → Small-sheet (endOf n m a s)
 unfolding endOf
 end-small n m a s l =
-    by-cond Small-sheet {t = eqb (waysIn n m a s .next) (length s)} {a = record { judged = Fine; plan = planOf n m a s }} {b = refusedOf (Form (n + m + a + 2))}
-    (λ _. fine-small (planOf n m a s)) (λ _. refused-small (Form (n + m + a + 2)) (omega (arith, l .bookings, l .links, l .ways)))
+    by-cond Small-sheet {t = eqb (waysIn n m a s .next) (length s)} {a = record { judged = Fine; plan = planIn n m a s }} {b = refusedOf (Form (n + m + a + 2))}
+    (λ _. fine-small (planIn n m a s)) (λ _. refused-small (Form (n + m + a + 2)) (omega (arith, l .bookings, l .links, l .ways)))
 
 body-small : (n m a : ℕ) (s : List ℕ) → Limited n m a → Small-sheet (bodyOf n m a s)
 unfolding bodyOf
@@ -69,4 +70,4 @@ head-small H.OutOfLimits s l = omega arith
 
 pub sheet-small : (s : List ℕ) → judgedPlace (sheetOf s .judged) < 65536
 unfolding sheetOf
-sheet-small s = head-small (headOf (take 14 s)) s (λ n m a e. head-limits (take 14 s) (headOf (take 14 s)) n m a refl e)
+sheet-small s = head-small (headOf (take headBytes s)) s (λ n m a e. head-limits (take headBytes s) (headOf (take headBytes s)) n m a refl e)

@@ -11,10 +11,12 @@ use borrow.Author.Tests.{eq-eqb}
 use Rattle.bounded.proofs.Filled.{filled}
 use Rattle.plan.specs.declared.Plan.{Plan}
 use Rattle.plan.specs.Judging.{isFine}
+use Rattle.plan.specs.Limits.{mostBookings}
 use Rattle.plan.specs.Record.{recordOf}
 use Rattle.plan.specs.declared.Judged.the-variants.{Fine}
 use Rattle.plan.proofs.LimitLaws.{Limited, limited-i}
 use Rattle.plan.proofs.Valid.{valid, fine-entries, kind-fits, link-fits}
+use Rattle.lines.specs.Form.{headBytes, bookingBytes, linkBytes, linksPlace, waysPlace}
 use Rattle.lines.specs.Head.{headText, headOf}
 use Rattle.lines.specs.Kinds.{kindsText, noKinds}
 use Rattle.lines.specs.Links.{linksText, noLinks}
@@ -23,12 +25,12 @@ use Rattle.lines.proofs.RoundTrip.{head-read}
 use Rattle.lines.proofs.AllLines.{kinds-read, links-read}
 use Rattle.plan.specs.declared.Judgement.the-variants as R
 use Rattle.lines.specs.declared.Head.the-variants as H
-use Rattle.ways.specs.WayText.{waysText, waysLength}
+use Rattle.ways.specs.WayText.{wayBytes, waysText, waysLength}
 use Rattle.ways.specs.Ways.{noWays}
 use Rattle.ways.proofs.WaysRoundTrip.{ways-length, all-read}
 use Rattle.ways.proofs.TextLaws.{ways-most}
 use Rattle.sheet.specs.Text.{sheetText, sheetLength}
-use Rattle.sheet.specs.Sheet.{linksPlace, waysPlace, kindsIn, linksIn, waysIn, planOf, endOf, bodyOf, sheetOf}
+use Rattle.sheet.specs.Sheet.{kindsIn, linksIn, waysIn, planIn, endOf, bodyOf, sheetOf}
 use Rattle.sheet.proofs.Accepted.{sheet-fine, sheet-accepted}
 
 pub sheet-length : (p : Plan) → length (sheetText p) ≡ sheetLength p
@@ -65,24 +67,24 @@ module _ (p : Plan) (e : recordOf p ≡ R.Fine) where
   fits : Limited (p .n) (p .m) (p .a)
   fits = valid p e .counts
 
-  the-head : headOf (take 14 (sheetText p)) ≡ H.Counts (p .n) (p .m) (p .a)
+  the-head : headOf (take headBytes (sheetText p)) ≡ H.Counts (p .n) (p .m) (p .a)
   unfolding sheetText
   the-head =
-      rw (take-at (headText (p .n) (p .m) (p .a)) (kindsText (p .n) 0 (p .kind) ++ (linksText (p .m) 0 (p .from) (p .to) ++ waysText (p .a) 0 (p .way))) 14 (head-length (p .n) (p .m) (p .a)))
+      rw (take-at (headText (p .n) (p .m) (p .a)) (kindsText (p .n) 0 (p .kind) ++ (linksText (p .m) 0 (p .from) (p .to) ++ waysText (p .a) 0 (p .way))) headBytes (head-length (p .n) (p .m) (p .a)))
       (head-read (p .n) (p .m) (p .a) (limited-i (p .n) (p .m) (p .a) fits))
 
-  from-kinds : drop 14 (sheetText p) ≡ kindsText (p .n) 0 (p .kind) ++ (linksText (p .m) 0 (p .from) (p .to) ++ waysText (p .a) 0 (p .way))
+  from-kinds : drop headBytes (sheetText p) ≡ kindsText (p .n) 0 (p .kind) ++ (linksText (p .m) 0 (p .from) (p .to) ++ waysText (p .a) 0 (p .way))
   unfolding sheetText
-  from-kinds = drop-at (headText (p .n) (p .m) (p .a)) _ 14 (head-length (p .n) (p .m) (p .a))
+  from-kinds = drop-at (headText (p .n) (p .m) (p .a)) _ headBytes (head-length (p .n) (p .m) (p .a))
 
   from-links : drop (linksPlace (p .n)) (sheetText p) ≡ linksText (p .m) 0 (p .from) (p .to) ++ waysText (p .a) 0 (p .way)
   from-links =
-      sym (drop-drop (8 * p .n) 14 (sheetText p)) ∙ rw from-kinds (drop-at (kindsText (p .n) 0 (p .kind)) _ (8 * p .n) (kinds-length (p .n) 0 (p .kind)))
+      sym (drop-drop (bookingBytes * p .n) headBytes (sheetText p)) ∙ rw from-kinds (drop-at (kindsText (p .n) 0 (p .kind)) _ (bookingBytes * p .n) (kinds-length (p .n) 0 (p .kind)))
 
   from-ways : drop (waysPlace (p .n) (p .m)) (sheetText p) ≡ waysText (p .a) 0 (p .way) ++ []
   from-ways =
-      sym (drop-drop (10 * p .m) (linksPlace (p .n)) (sheetText p))
-      ∙ rw from-links (drop-at (linksText (p .m) 0 (p .from) (p .to)) _ (10 * p .m) (links-length (p .m) 0 (p .from) (p .to)))
+      sym (drop-drop (linkBytes * p .m) (linksPlace (p .n)) (sheetText p))
+      ∙ rw from-links (drop-at (linksText (p .m) 0 (p .from) (p .to)) _ (linkBytes * p .m) (links-length (p .m) 0 (p .from) (p .to)))
       ∙ sym (append-nil (waysText (p .a) 0 (p .way)))
 
   the-kinds : kindsIn (p .n) (sheetText p) ≡ record { judged = Fine; kind = readPlan p .kind }
@@ -104,14 +106,14 @@ module _ (p : Plan) (e : recordOf p ≡ R.Fine) where
 
   -- the sheet of a record that is fine reads as that record
   pub sheet-read : sheetOf (sheetText p) ≡ record { judged = Fine; plan = readPlan p }
-  unfolding sheetOf bodyOf endOf planOf readPlan
+  unfolding sheetOf bodyOf endOf planIn readPlan
   sheet-read = rw (the-head, the-kinds, the-links, the-ways, eq-eqb _ _ (sym (sheet-length p)))
 
   -- the longest sheet has 64 bookings, 512 links and 16 ways of 64 bookings
   pub length-bound : length (sheetText p) ≤ 9838
   unfolding sheetLength
   length-bound =
-      let w : waysLength (p .a) (p .way) ≤ 262 * p .a = ways-most _ (p .a) (p .way) refl in
+      let w : waysLength (p .a) (p .way) ≤ wayBytes mostBookings * p .a = ways-most _ (p .a) (p .way) refl in
       omega (arith, sheet-length p, fits .bookings, fits .links, fits .ways)
 
 -- no accepted sheet is longer than the longest

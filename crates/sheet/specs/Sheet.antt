@@ -2,7 +2,7 @@
 -- It is judged line by line from the top, so the first line that is refused decides: 1 for its form, 2 for a count, 3 for a number.
 -- Where bytes end early the line that lacks one is not of its form; where bytes remain, the line after the last is not.
 -- Assumes nothing.
-use Prim.Native.Nat.{ℕ, _+_, _*_}
+use Prim.Native.Nat.{ℕ, _+_}
 use mathlib.Core.List.{List}
 use mathlib.Core.Bool.{cond}
 use lib.ListN.{length, take, drop}
@@ -11,6 +11,7 @@ use Rattle.plan.specs.Judging.{isFine}
 use Rattle.plan.specs.declared.Judged.{Judged}
 use Rattle.plan.specs.declared.Judged.the-variants.{Fine, Form, Count}
 use Rattle.plan.specs.declared.Plan.{Plan}
+use Rattle.lines.specs.Form.{headBytes, linksPlace, waysPlace}
 use Rattle.lines.specs.Head.{headOf}
 use Rattle.lines.specs.Kinds.{kindsOf, noKinds}
 use Rattle.lines.specs.Links.{linksOf, noLinks}
@@ -22,16 +23,9 @@ use Rattle.ways.specs.Ways.{waysOf, noWays}
 use Rattle.ways.specs.declared.Ways.{Ways}
 use Rattle.sheet.specs.declared.Sheet.{Sheet}
 
--- the head has 14 bytes, the line of a booking 8 and that of a link 10; so the links and the ways begin here
-abbrev pub linksPlace : ℕ → ℕ
-linksPlace n = 14 + 8 * n
-
-abbrev pub waysPlace : ℕ → ℕ → ℕ
-waysPlace n m = 14 + 8 * n + 10 * m
-
 -- what the three kinds of lines after the head give; the first way stands on line n + m + 2
 unfoldable pub kindsIn : ℕ → List ℕ → Kinds
-kindsIn n s = kindsOf n 0 (drop 14 s) noKinds
+kindsIn n s = kindsOf n 0 (drop headBytes s) noKinds
 
 unfoldable pub linksIn : ℕ → ℕ → List ℕ → Links
 linksIn n m s = linksOf n m 0 (drop (linksPlace n) s) 0 0 noLinks noLinks
@@ -40,8 +34,8 @@ unfoldable pub waysIn : ℕ → ℕ → ℕ → List ℕ → Ways
 waysIn n m a s = waysOf n (n + m + 2) a 0 (waysPlace n m) (drop (waysPlace n m) s) noWays
 
 -- the plan that an accepted sheet gives: its entries past the counts are 0
-unfoldable pub planOf : ℕ → ℕ → ℕ → List ℕ → Plan
-planOf n m a s = record {
+unfoldable pub planIn : ℕ → ℕ → ℕ → List ℕ → Plan
+planIn n m a s = record {
   n = n;
   m = m;
   a = a;
@@ -64,7 +58,7 @@ past j next = cond (isFine j) next (refusedOf j)
 
 -- the ways are to end where the sheet ends; the line after the last way is line n + m + a + 2
 unfoldable pub endOf : ℕ → ℕ → ℕ → List ℕ → Sheet
-endOf n m a s = cond (eqb (waysIn n m a s .next) (length s)) (record { judged = Fine; plan = planOf n m a s }) (refusedOf (Form (n + m + a + 2)))
+endOf n m a s = cond (eqb (waysIn n m a s .next) (length s)) (record { judged = Fine; plan = planIn n m a s }) (refusedOf (Form (n + m + a + 2)))
 
 -- the lines after the head
 unfoldable pub bodyOf : ℕ → ℕ → ℕ → List ℕ → Sheet
@@ -77,4 +71,4 @@ afterHead OutOfLimits s = refusedOf (Count 1)
 
 -- what the bytes of a sheet are
 unfoldable pub sheetOf : List ℕ → Sheet
-sheetOf s = afterHead (headOf (take 14 s)) s
+sheetOf s = afterHead (headOf (take headBytes s)) s

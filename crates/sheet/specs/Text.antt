@@ -1,8 +1,9 @@
 -- The sheet of a plan: its lines one after the other.
 -- Assumes nothing.
-use Prim.Native.Nat.{ℕ, _+_, _*_}
+use Prim.Native.Nat.{ℕ, _+_}
 use mathlib.Core.List.{List, _++_}
 use Rattle.plan.specs.declared.Plan.{Plan}
+use Rattle.lines.specs.Form.{waysPlace}
 use Rattle.lines.specs.Head.{headText}
 use Rattle.lines.specs.Kinds.{kindsText}
 use Rattle.lines.specs.Links.{linksText}
@@ -13,4 +14,4 @@ sheetText p = headText (p .n) (p .m) (p .a) ++ (kindsText (p .n) 0 (p .kind) ++ 
 
 -- how many bytes it has
 unfoldable pub sheetLength : Plan → ℕ
-sheetLength p = 14 + 8 * p .n + 10 * p .m + waysLength (p .a) (p .way)
+sheetLength p = waysPlace (p .n) (p .m) + waysLength (p .a) (p .way)

@@ -1,12 +1,15 @@
 // Reads a plan sheet: its plan, or the first line that is refused and why.
 use lines::Head;
+use lines::Kinds;
+use lines::Links;
 use plan::Judged;
 use plan::Plan;
+use ways::Ways;
 ghost use mathlib.Core.Path.{_≡_};
 ghost use Prim.Native.Nat.{_≤_};
 ghost use Rattle.plan.specs.declared.Judged.the-variants.{Fine};
 ghost use Rattle.plan.specs.Limits.{mostBookings, mostLinks, mostWays};
-ghost use Rattle.sheet.specs.Sheet.{refusedOf, bodyOf, sheetOf};
+ghost use Rattle.sheet.specs.Sheet.{kindsIn, linksIn, waysIn, refusedOf, bodyOf, sheetOf};
 
 // What a sheet is, and its plan, which is empty where the sheet is refused.
 pub struct Sheet {
@@ -40,22 +43,46 @@ fn fine(plan: Plan) -> Sheet
     }
 }
 
+// The kinds of the n bookings of a sheet.
+fn kinds_in(s: &[u8], n: usize) -> Kinds
+    requires { ⌜ n ≤ mostBookings ⌝ }
+    ensures { λ r. ⌜ r ≡ kindsIn n (now (s .entry)) ⌝ }
+{
+    lines::read_kinds(s, lines::HEAD_BYTES, n)
+}
+
+// The m links of a sheet of n bookings.
+fn links_in(s: &[u8], n: usize, m: usize) -> Links
+    requires { ⌜ (n ≤ mostBookings) × (m ≤ mostLinks) ⌝ }
+    ensures { λ r. ⌜ r ≡ linksIn n m (now (s .entry)) ⌝ }
+{
+    lines::read_links(s, lines::links_place(n), n, m)
+}
+
+// The a ways of a sheet of n bookings and m links.
+fn ways_in(s: &[u8], n: usize, m: usize, a: usize) -> Ways
+    requires { ⌜ (n ≤ mostBookings) × (m ≤ mostLinks) × (a ≤ mostWays) ⌝ }
+    ensures { λ r. ⌜ r ≡ waysIn n m a (now (s .entry)) ⌝ }
+{
+    ways::read_ways(s, lines::ways_place(n, m), n, a, n + m + 2)
+}
+
 // Reads the lines after the head of a sheet with n bookings, m links and a ways.
 fn read_body(s: &[u8], n: usize, m: usize, a: usize) -> Sheet
     requires { ⌜ (n ≤ mostBookings) × (m ≤ mostLinks) × (a ≤ mostWays) ⌝ }
     ensures { λ r. ⌜ r ≡ bodyOf n m a (now (s .entry)) ⌝ }
 {
-    let k = lines::read_kinds(s, 14, n);
+    let k = kinds_in(s, n);
     let kj = k.judged;
     if !plan::is_fine(kj) {
         return refused(kj);
     }
-    let l = lines::read_links(s, 14 + 8 * n, n, m);
+    let l = links_in(s, n, m);
     let lj = l.judged;
     if !plan::is_fine(lj) {
         return refused(lj);
     }
-    let w = ways::read_ways(s, 14 + 8 * n + 10 * m, n, a, n + m + 2);
+    let w = ways_in(s, n, m, a);
     let wj = w.judged;
     if !plan::is_fine(wj) {
         return refused(wj);
@@ -84,7 +111,7 @@ fn read_body(s: &[u8], n: usize, m: usize, a: usize) -> Sheet
 pub fn read_sheet(s: &[u8]) -> Sheet
     ensures { λ r. ⌜ r ≡ sheetOf (now (s .entry)) ⌝ }
 {
-    match lines::read_head(decimal::part(s, 0, 14)) {
+    match lines::read_head(decimal::part(s, 0, lines::HEAD_BYTES)) {
         Head::Counts(n, m, a) => read_body(s, n, m, a),
         Head::Malformed => refused(Judged::Form(1)),
         Head::OutOfLimits => refused(Judged::Count(1)),

@@ -1,11 +1,12 @@
 -- No way line is refused past the last one.
 -- Assumes nothing.
 use mathlib.Core.List.{List}
-use Prim.Native.Nat.{ℕ, zero, suc, _+_, _*_, _≤_}
+use Prim.Native.Nat.{ℕ, zero, suc, _+_, _≤_}
 use native.Mathlib.Omega.{arith}
 use lib.ListN.{drop, set}
 use Rattle.plan.specs.Judging.{judgedPlace}
-use Rattle.ways.specs.Way.{wayOf}
+use Rattle.ways.specs.WayText.{wayBytes}
+use Rattle.ways.specs.Way.{wayLineOf}
 use Rattle.ways.specs.Ways.{afterWay, waysOf}
 use Rattle.ways.specs.declared.Way.{Way}
 use Rattle.ways.specs.declared.Way.the-variants as W
@@ -21,5 +22,5 @@ pub ways-small : (n line more i at : ℕ) (rest ws : List ℕ) → judgedPlace (
 unfolding waysOf
 ways-small n line zero i at rest ws = omega arith
 ways-small n line (suc more) i at rest ws =
-    ways-next (wayOf n rest) (line + i) at (line + i + suc more) ws _ (omega arith)
-    (λ k s. omega (arith, ways-small n line more (i + 1) (at + 6 + 4 * k) (drop (6 + 4 * k) rest) (set ws i s)))
+    ways-next (wayLineOf n rest) (line + i) at (line + i + suc more) ws _ (omega arith)
+    (λ k s. omega (arith, ways-small n line more (i + 1) (at + wayBytes k) (drop (wayBytes k) rest) (set ws i s)))

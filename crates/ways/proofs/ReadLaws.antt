@@ -17,7 +17,8 @@ use Rattle.plan.proofs.LimitLaws.{within-hi}
 use Rattle.decimal.specs.Decimal.{fieldAt}
 use Rattle.decimal.specs.declared.Field.{Field}
 use Rattle.decimal.specs.declared.Field.the-variants.{Number, Fault}
-use Rattle.ways.specs.Way.{countOf, isNumber, numberThere, brokenOf, afterNumber, gatherOf, fedAt, asWay, membersOf, afterCount, wayOf}
+use Rattle.ways.specs.WayText.{wayFrontBytes, wayBytes}
+use Rattle.ways.specs.Way.{countOf, isNumber, numberThere, sequenceOrForm, afterNumber, gatherOf, lineFeedAt, asWay, membersOf, afterCount, wayLineOf}
 use Rattle.ways.specs.Ways.{afterWay, waysOf}
 use Rattle.plan.specs.declared.Judged.the-variants as J
 use Rattle.ways.specs.declared.Gathered.{Gathered}
@@ -43,9 +44,9 @@ count-field front f h e = rw (eq-eqb (getD front 0 0) 65 h) e
 
 -- ---- the line feed
 
-pub no-feed : (s : List ℕ) (at : ℕ) → length s ≤ at → false ≡ fedAt at s
-unfolding fedAt
-no-feed s at h = rw (List·getD-eq-default s 0 h)
+pub no-line-feed : (s : List ℕ) (at : ℕ) → length s ≤ at → false ≡ lineFeedAt at s
+unfolding lineFeedAt
+no-line-feed s at h = rw (List·getD-eq-default s 0 h)
 
 -- ---- fields that are numbers
 
@@ -67,19 +68,19 @@ pub number-on : (s : List ℕ) (at j : ℕ) (x : Bool) → All-far (numberThere 
     → not x ≡ false → All-far (numberThere (drop at s)) (j + 1)
 number-on s at j x a e q = all-on (numberThere (drop at s)) j x a (e ∙ there s at j) q
 
-pub broken-sequence : (k : ℕ) (fields : List ℕ) (x : Bool) → x ≡ all (numberThere fields) k → x ≡ true → G.OutOfSequence ≡ brokenOf k fields
-unfolding brokenOf
-broken-sequence k fields x e q = rw (← e, q)
+pub sequence-told : (k : ℕ) (fields : List ℕ) (x : Bool) → x ≡ all (numberThere fields) k → x ≡ true → G.OutOfSequence ≡ sequenceOrForm k fields
+unfolding sequenceOrForm
+sequence-told k fields x e q = rw (← e, q)
 
-pub broken-form : (k : ℕ) (fields : List ℕ) (x : Bool) → x ≡ all (numberThere fields) k → x ≡ false → G.Malformed ≡ brokenOf k fields
-unfolding brokenOf
-broken-form k fields x e q = rw (← e, q)
+pub form-told : (k : ℕ) (fields : List ℕ) (x : Bool) → x ≡ all (numberThere fields) k → x ≡ false → G.Malformed ≡ sequenceOrForm k fields
+unfolding sequenceOrForm
+form-told k fields x e q = rw (← e, q)
 
 -- ---- the set of the numbers
 
 module _ (n last set k j at : ℕ) (s : List ℕ) (f : Field) (whole : Gathered) (h : j < k) (e : f ≡ fieldAt 4 (at + 4 * j) s)
     (w : gatherOf n last set (k - j) (drop (at + 4 * j) s) ≡ whole) where
-  turn : afterNumber f n last (brokenOf (k - (j + 1)) (drop (at + 4 * (j + 1)) s))
+  turn : afterNumber f n last (sequenceOrForm (k - (j + 1)) (drop (at + 4 * (j + 1)) s))
       (λ x. gatherOf n x (insert set (x - 1)) (k - (j + 1)) (drop (at + 4 * (j + 1)) s)) ≡ whole
   unfolding gatherOf fieldAt
   turn =
@@ -91,7 +92,7 @@ module _ (n last set k j at : ℕ) (s : List ℕ) (f : Field) (whole : Gathered)
   gather-fault g = rw g at turn
 
   module _ (x : ℕ) (b : Bool) (g : f ≡ Number x) (t : b ≡ within (last + 1) x n) where
-    pub gather-out : (r : Gathered) → not b ≡ true → r ≡ brokenOf (k - (j + 1)) (drop (at + 4 * (j + 1)) s) → r ≡ whole
+    pub gather-out : (r : Gathered) → not b ≡ true → r ≡ sequenceOrForm (k - (j + 1)) (drop (at + 4 * (j + 1)) s) → r ≡ whole
     gather-out r q z =
         let o : within (last + 1) x n ≡ false = sym t ∙ not-true b q in
         z ∙ (rw (g, o) at turn)
@@ -109,33 +110,33 @@ gather-end n last set k j fields whole h w =
 
 -- ---- a line
 
-module _ (n at : ℕ) (s front : List ℕ) (f : Field) (p : front ≡ take 5 (drop at s)) (e : f ≡ countOf front) where
-  by-count : wayOf n (drop at s) ≡ afterCount f n (drop at s)
-  unfolding wayOf
+module _ (n at : ℕ) (s front : List ℕ) (f : Field) (p : front ≡ take wayFrontBytes (drop at s)) (e : f ≡ countOf front) where
+  by-count : wayLineOf n (drop at s) ≡ afterCount f n (drop at s)
+  unfolding wayLineOf
   by-count = rw (e, p)
 
-  pub no-count : f ≡ Fault → Malformed ≡ wayOf n (drop at s)
+  pub no-count : f ≡ Fault → Malformed ≡ wayLineOf n (drop at s)
   no-count g = rw (by-count, g)
 
   module _ (k : ℕ) (g : f ≡ Number k) (b : Bool) (t : b ≡ within 1 k n) where
-    pub count-out : not b ≡ true → OutOfLimits ≡ wayOf n (drop at s)
+    pub count-out : not b ≡ true → OutOfLimits ≡ wayLineOf n (drop at s)
     count-out q = rw (by-count, g, ← t, not-true b q)
 
-    module _ (q : not b ≡ false) (d : Bool) (w : d ≡ fedAt (at + 5 + 4 * k) s) where
-      fed : fedAt (5 + 4 * k) (drop at s) ≡ d
-      unfolding fedAt
-      fed =
-          let a : at + (5 + 4 * k) ≡ at + 5 + 4 * k = omega arith in
-          rw (getD-drop at s (5 + 4 * k) 0, a, w)
+    module _ (q : not b ≡ false) (d : Bool) (w : d ≡ lineFeedAt (at + wayFrontBytes + 4 * k) s) where
+      feed : lineFeedAt (wayFrontBytes + 4 * k) (drop at s) ≡ d
+      unfolding lineFeedAt
+      feed =
+          let a : at + (wayFrontBytes + 4 * k) ≡ at + wayFrontBytes + 4 * k = omega arith in
+          rw (getD-drop at s (wayFrontBytes + 4 * k) 0, a, w)
 
-      pub no-end : not d ≡ true → Malformed ≡ wayOf n (drop at s)
+      pub no-end : not d ≡ true → Malformed ≡ wayLineOf n (drop at s)
       unfolding membersOf
-      no-end x = rw (by-count, g, ← t, not-false b q, fed, not-true d x)
+      no-end x = rw (by-count, g, ← t, not-false b q, feed, not-true d x)
 
-      module _ (x : not d ≡ false) (h : Gathered) (y : h ≡ gatherOf n 0 0 k (drop (at + 5) s)) where
-        pub by-set : wayOf n (drop at s) ≡ asWay k h
+      module _ (x : not d ≡ false) (h : Gathered) (y : h ≡ gatherOf n 0 0 k (drop (at + wayFrontBytes) s)) where
+        pub by-set : wayLineOf n (drop at s) ≡ asWay k h
         unfolding membersOf
-        by-set = rw (by-count, g, ← t, not-false b q, fed, not-false d x, drop-drop 5 at s, y)
+        by-set = rw (by-count, g, ← t, not-false b q, feed, not-false d x, drop-drop wayFrontBytes at s, y)
 
 -- ---- a line that is accepted has at most n bookings
 
@@ -147,37 +148,35 @@ few-gathered n c k x G.OutOfSequence l e = clash true refl (cc)
 few-counted : (n k x : ℕ) (rest : List ℕ) (f : Field) → afterCount f n rest ≡ Members k x → k ≤ n
 unfolding membersOf
 few-counted n k x rest (Number c) e =
-    go (within 1 c n) (fedAt (5 + 4 * c) rest) (within-hi 1 c n) e
+    go (within 1 c n) (lineFeedAt (wayFrontBytes + 4 * c) rest) (within-hi 1 c n) e
   where
-    go : (a b : Bool) → (a ≡ true → c ≤ n) → cond a (cond b (asWay c (gatherOf n 0 0 c (drop 5 rest))) Malformed) OutOfLimits ≡ Members k x → k ≤ n
-    go true true h e = few-gathered n c k x (gatherOf n 0 0 c (drop 5 rest)) (h refl) e
+    go : (a b : Bool) → (a ≡ true → c ≤ n) → cond a (cond b (asWay c (gatherOf n 0 0 c (drop wayFrontBytes rest))) Malformed) OutOfLimits ≡ Members k x → k ≤ n
+    go true true h e = few-gathered n c k x (gatherOf n 0 0 c (drop wayFrontBytes rest)) (h refl) e
     go true false h e = clash true refl (cc)
     go false b h e = clash true refl (cc)
 few-counted n k x rest Fault e = clash true refl (cc)
 
-pub few-members : (n : ℕ) (rest : List ℕ) (b : Way) (k x : ℕ) → b ≡ wayOf n rest → b ≡ Members k x → k ≤ n
-unfolding wayOf
-few-members n rest b k x e g = few-counted n k x rest (countOf (take 5 rest)) (sym e ∙ g)
+pub few-members : (n : ℕ) (rest : List ℕ) (b : Way) (k x : ℕ) → b ≡ wayLineOf n rest → b ≡ Members k x → k ≤ n
+unfolding wayLineOf
+few-members n rest b k x e g = few-counted n k x rest (countOf (take wayFrontBytes rest)) (sym e ∙ g)
 
 -- ---- all lines
 
 ways-step : (n first a i at : ℕ) (rest ws : List ℕ) → i < a
     → waysOf n first (a - i) i at rest ws
-    ≡ afterWay (wayOf n rest) (first + i) at ws (λ k x. waysOf n first (a - (i + 1)) (i + 1) (at + 6 + 4 * k) (drop (6 + 4 * k) rest) (set ws i x))
+    ≡ afterWay (wayLineOf n rest) (first + i) at ws (λ k x. waysOf n first (a - (i + 1)) (i + 1) (at + wayBytes k) (drop (wayBytes k) rest) (set ws i x))
 unfolding waysOf
 ways-step n first a i at rest ws h =
     let e : a - i ≡ suc (a - (i + 1)) = omega arith in
     rw e
 
-module _ (n first a i at : ℕ) (s ws : List ℕ) (b : Way) (whole : Ways) (h : i < a) (e : b ≡ wayOf n (drop at s))
+module _ (n first a i at : ℕ) (s ws : List ℕ) (b : Way) (whole : Ways) (h : i < a) (e : b ≡ wayLineOf n (drop at s))
     (w : waysOf n first (a - i) i at (drop at s) ws ≡ whole) where
-  ways-turn : afterWay b (first + i) at ws (λ k x. waysOf n first (a - (i + 1)) (i + 1) (at + 6 + 4 * k) (drop (6 + 4 * k) (drop at s)) (set ws i x)) ≡ whole
+  ways-turn : afterWay b (first + i) at ws (λ k x. waysOf n first (a - (i + 1)) (i + 1) (at + wayBytes k) (drop (wayBytes k) (drop at s)) (set ws i x)) ≡ whole
   ways-turn = rw (e, ← ways-step n first a i at (drop at s) ws h) w
 
-  pub ways-on : (k x : ℕ) → b ≡ Members k x → waysOf n first (a - (i + 1)) (i + 1) (at + 6 + 4 * k) (drop (at + 6 + 4 * k) s) (set ws i x) ≡ whole
-  ways-on k x g =
-      let d : at + (6 + 4 * k) ≡ at + 6 + 4 * k = omega arith in
-      rw (← d, ← drop-drop (6 + 4 * k) at s, d) (rw g at ways-turn)
+  pub ways-on : (k x r : ℕ) → b ≡ Members k x → r ≡ wayBytes k → waysOf n first (a - (i + 1)) (i + 1) (at + r) (drop (at + r) s) (set ws i x) ≡ whole
+  ways-on k x r g q = rw (q, ← drop-drop (wayBytes k) at s) (rw g at ways-turn)
 
   pub ways-form : b ≡ Malformed → record { judged = J.Form (first + i); next = at; way = ws } ≡ whole
   ways-form g = rw g at ways-turn

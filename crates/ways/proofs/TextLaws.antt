@@ -13,10 +13,11 @@ use Rattle.bounded.proofs.Sums.{sum-upto, sum-most, count-upto, count-suc}
 use Rattle.bounded.proofs.Lists.{listed-length}
 use Rattle.sets.specs.Sets.{member, sizeOf}
 use Rattle.sets.proofs.Gather.{size-small}
+use Rattle.plan.specs.Limits.{mostBookings}
 use Rattle.decimal.specs.Decimal.{columns}
 use Rattle.decimal.proofs.Laws.{columns-length}
 use Rattle.decimal.proofs.Stores.{sets-append}
-use Rattle.ways.specs.WayText.{members, numbersText, memberText, wayFront, wayText, waysText, sizeAt, waysLength}
+use Rattle.ways.specs.WayText.{members, numbersText, memberText, wayFrontBytes, wayBytes, wayFront, wayText, waysText, sizeAt, bytesAt, waysLength}
 
 -- ---- numbers
 
@@ -94,51 +95,51 @@ members-done s b at buf₀ buf h l e = let z : b ≡ 64 = omega arith in rw z at
 
 -- ---- a line
 
-pub front-length : (k : ℕ) → length (wayFront k) ≡ 5
+pub front-length : (k : ℕ) → length (wayFront k) ≡ wayFrontBytes
 unfolding wayFront
 front-length k = ap suc (columns-length 4 k)
 
--- a way of k bookings takes 6 + 4 * k bytes
-pub way-length : (s : ℕ) → length (wayText s) ≡ 6 + 4 * sizeOf s
+-- a way of k bookings takes wayBytes k bytes
+pub way-length : (s : ℕ) → length (wayText s) ≡ wayBytes (sizeOf s)
 unfolding wayText
 way-length s =
     length-append (wayFront (sizeOf s)) _
     ∙ omega (arith, front-length (sizeOf s), length-append (numbersText (members s)) (10 ∷ []), members-length s)
 
 pub way-sets : (at s k next : ℕ) (d e f g h : List ℕ) → k ≡ sizeOf s → e ≡ sets d at (65 ∷ []) → f ≡ sets e (at + 1) (columns 4 k)
-    → g ≡ sets f (at + 5) (numbersText (members s)) → next ≡ at + 5 + 4 * sizeOf s → h ≡ sets g next (10 ∷ []) → h ≡ sets d at (wayText s)
+    → g ≡ sets f (at + wayFrontBytes) (numbersText (members s)) → next ≡ at + wayFrontBytes + 4 * sizeOf s → h ≡ sets g next (10 ∷ []) → h ≡ sets d at (wayText s)
 unfolding wayText wayFront
 way-sets at s k next d e f g h q a b c n z =
     let m : List ℕ = numbersText (members s) in
-    let i : at + length (65 ∷ columns 4 k) ≡ at + 5 = omega (arith, columns-length 4 k) in
-    let j : at + 5 + length (numbersText (members s)) ≡ next = omega (arith, members-length s) in
+    let i : at + length (65 ∷ columns 4 k) ≡ at + wayFrontBytes = omega (arith, columns-length 4 k) in
+    let j : at + wayFrontBytes + length (numbersText (members s)) ≡ next = omega (arith, members-length s) in
     let u : sets d at (65 ∷ columns 4 k) ≡ f = sets-append d at (65 ∷ []) (columns 4 k) ∙ rw (← a, b) in
-    let v : sets d at ((65 ∷ columns 4 k) ++ (m ++ (10 ∷ []))) ≡ sets f (at + 5) (m ++ (10 ∷ [])) =
+    let v : sets d at ((65 ∷ columns 4 k) ++ (m ++ (10 ∷ []))) ≡ sets f (at + wayFrontBytes) (m ++ (10 ∷ [])) =
     sets-append d at (65 ∷ columns 4 k) (m ++ (10 ∷ [])) ∙ rw (u, i) in
-    let w : sets f (at + 5) (m ++ (10 ∷ [])) ≡ h = sets-append f (at + 5) m (10 ∷ []) ∙ rw (j, ← c, z) in
+    let w : sets f (at + wayFrontBytes) (m ++ (10 ∷ [])) ≡ h = sets-append f (at + wayFrontBytes) m (10 ∷ []) ∙ rw (j, ← c, z) in
     rw (← q) (sym (v ∙ w))
 
 -- ---- all lines
 
-pub length-step : (ws : List ℕ) (i : ℕ) → waysLength (i + 1) ws ≡ waysLength i ws + 6 + 4 * sizeOf (getD ws i 0)
-unfolding waysLength sizeAt sum
-length-step ws i = rw add-one (omega arith)
+pub length-step : (ws : List ℕ) (i : ℕ) → waysLength (i + 1) ws ≡ waysLength i ws + wayBytes (sizeOf (getD ws i 0))
+unfolding waysLength bytesAt sizeAt sum
+length-step ws i = rw add-one
 
 pub length-upto : (ws : List ℕ) (i a : ℕ) → i ≤ a → waysLength i ws ≤ waysLength a ws
 unfolding waysLength
-length-upto ws i a h = omega (arith, sum-upto (sizeAt ws) i a h)
+length-upto ws i a h = sum-upto (bytesAt ws) i a h
 
 -- the longest lines: n bookings in each way
-pub length-most : (n a : ℕ) (ws : List ℕ) → ((k : ℕ) → k < a → sizeOf (getD ws k 0) ≤ n) → waysLength a ws ≤ 6 * a + 4 * (n * a)
-unfolding waysLength sizeAt
-length-most n a ws h = omega (arith, sum-most (sizeAt ws) n a h)
+pub length-most : (n a : ℕ) (ws : List ℕ) → ((k : ℕ) → k < a → sizeOf (getD ws k 0) ≤ n) → waysLength a ws ≤ wayBytes n * a
+unfolding waysLength bytesAt sizeAt
+length-most n a ws h = sum-most (bytesAt ws) (wayBytes n) a (λ k l. omega (arith, h k l))
 
 -- whatever the sets are, their lines take no more than this
-pub ways-most : (k a : ℕ) (ws : List ℕ) → k ≡ waysLength a ws → k ≤ 262 * a
-ways-most k a ws e = omega (arith, length-most 64 a ws (λ i h. size-small (getD ws i 0)))
+pub ways-most : (k a : ℕ) (ws : List ℕ) → k ≡ waysLength a ws → k ≤ wayBytes mostBookings * a
+ways-most k a ws e = rw e (length-most mostBookings a ws (λ i h. size-small (getD ws i 0)))
 
-pub size-next : (ws : List ℕ) (i total k : ℕ) → total ≡ waysLength i ws → k ≡ sizeOf (getD ws i 0) → total + 6 + 4 * k ≡ waysLength (i + 1) ws
-size-next ws i total k e f = omega (arith, length-step ws i)
+pub size-next : (ws : List ℕ) (i total k r : ℕ) → total ≡ waysLength i ws → k ≡ sizeOf (getD ws i 0) → r ≡ wayBytes k → total + r ≡ waysLength (i + 1) ws
+size-next ws i total k r e f g = omega (arith, length-step ws i)
 
 pub none-yet : (ws : List ℕ) → 0 ≡ waysLength 0 ws
 unfolding waysLength sum
@@ -152,10 +153,10 @@ place-all ws i a at next h l e = let z : i ≡ a = omega arith in rw z at e
 
 -- room for way i + 1
 pub room-way : (ws : List ℕ) (i a at next size size₀ : ℕ) → i < a → size ≡ size₀ → next ≡ at + waysLength i ws → at + waysLength a ws ≤ size₀
-    → next + 6 + 4 * sizeOf (getD ws i 0) ≤ size
+    → next + wayBytes (sizeOf (getD ws i 0)) ≤ size
 room-way ws i a at next size size₀ h z e r = omega (arith, length-step ws i, length-upto ws (i + 1) a (omega arith))
 
-pub ways-next : (ws : List ℕ) (i at next after : ℕ) → next ≡ at + waysLength i ws → after ≡ next + 6 + 4 * sizeOf (getD ws i 0) → after ≡ at + waysLength (i + 1) ws
+pub ways-next : (ws : List ℕ) (i at next after : ℕ) → next ≡ at + waysLength i ws → after ≡ next + wayBytes (sizeOf (getD ws i 0)) → after ≡ at + waysLength (i + 1) ws
 ways-next ws i at next after e f = omega (arith, length-step ws i)
 
 ways-step : (a i : ℕ) (ws : List ℕ) → i < a → waysText (a - i) i ws ≡ wayText (getD ws i 0) ++ waysText (a - (i + 1)) (i + 1) ws
@@ -165,7 +166,7 @@ ways-step a i ws h =
     rw e
 
 pub ways-on : (at i a after : ℕ) (buf buf′ ws whole : List ℕ) → i < a → sets buf at (waysText (a - i) i ws) ≡ whole
-    → after ≡ at + 6 + 4 * sizeOf (getD ws i 0) → buf′ ≡ sets buf at (wayText (getD ws i 0)) → sets buf′ after (waysText (a - (i + 1)) (i + 1) ws) ≡ whole
+    → after ≡ at + wayBytes (sizeOf (getD ws i 0)) → buf′ ≡ sets buf at (wayText (getD ws i 0)) → sets buf′ after (waysText (a - (i + 1)) (i + 1) ws) ≡ whole
 ways-on at i a after buf buf′ ws whole h w n e =
     let m : after ≡ at + length (wayText (getD ws i 0)) = n ∙ omega (arith, way-length (getD ws i 0)) in
     rw (e, m, ← sets-append buf at (wayText (getD ws i 0)) (waysText (a - (i + 1)) (i + 1) ws), ← ways-step a i ws h) w

@@ -19,7 +19,7 @@ use Rattle.sets.specs.Sets.{member, sizeOf}
 use Rattle.decimal.specs.Decimal.{columns, numberAt}
 use Rattle.decimal.proofs.Laws.{columns-length}
 use Rattle.decimal.proofs.Fields.{number-in}
-use Rattle.ways.specs.WayText.{members, numbersText, wayFront}
+use Rattle.ways.specs.WayText.{members, numbersText, wayFrontBytes, wayBytes, wayFront}
 use Rattle.ways.proofs.TextLaws.{front-length}
 use Rattle.ways.proofs.WayRoundTrip.{shape, size-members, WayIs}
 
@@ -38,7 +38,7 @@ numbers-at (b ∷ bs) rest (suc j) h =
 
 -- the number in field j of the line is that of booking b
 unfoldable pub numberIs : List ℕ → ℕ → ℕ → Bool
-numberIs rest b j = eqb (numberAt 4 (5 + 4 * j) rest) (b + 1)
+numberIs rest b j = eqb (numberAt 4 (wayFrontBytes + 4 * j) rest) (b + 1)
 
 module _ (n k s : ℕ) (rest : List ℕ) (w : WayIs n k s rest) where
   count-length : k ≡ length (members s)
@@ -49,15 +49,15 @@ module _ (n k s : ℕ) (rest : List ℕ) (w : WayIs n k s rest) where
   member-small j h = let c : k ≡ length (members s) = count-length in listed-passes (member s) 64 j (omega arith)
 
   -- number j of the line is that of the member j
-  pub way-numbers : (j : ℕ) → j < k → numberAt 4 (5 + 4 * j) rest ≡ getD (members s) j 0 + 1
+  pub way-numbers : (j : ℕ) → j < k → numberAt 4 (wayFrontBytes + 4 * j) rest ≡ getD (members s) j 0 + 1
   way-numbers j h =
-      let end : List ℕ = 10 ∷ drop (6 + 4 * k) rest in
-      let e : rest ≡ wayFront (sizeOf s) ++ (numbersText (members s) ++ (10 ∷ drop (6 + 4 * k) rest)) = w .text ∙ shape s (drop (6 + 4 * k) rest) in
-      let d : drop 5 rest ≡ numbersText (members s) ++ (10 ∷ drop (6 + 4 * k) rest) =
-      ap (drop 5) e ∙ drop-at (wayFront (sizeOf s)) (numbersText (members s) ++ end) 5 (front-length (sizeOf s)) in
-      let t : take 4 (drop (5 + 4 * j) rest) ≡ columns 4 (getD (members s) j 0 + 1) =
-      rw (← drop-drop (4 * j) 5 rest, d) (numbers-at (members s) end j (rw (← count-length) h)) in
-      number-in 4 (5 + 4 * j) (getD (members s) j 0 + 1) rest (omega (arith, member-small j h .0)) t
+      let end : List ℕ = 10 ∷ drop (wayBytes k) rest in
+      let e : rest ≡ wayFront (sizeOf s) ++ (numbersText (members s) ++ (10 ∷ drop (wayBytes k) rest)) = w .text ∙ shape s (drop (wayBytes k) rest) in
+      let d : drop wayFrontBytes rest ≡ numbersText (members s) ++ (10 ∷ drop (wayBytes k) rest) =
+      ap (drop wayFrontBytes) e ∙ drop-at (wayFront (sizeOf s)) (numbersText (members s) ++ end) wayFrontBytes (front-length (sizeOf s)) in
+      let t : take 4 (drop (wayFrontBytes + 4 * j) rest) ≡ columns 4 (getD (members s) j 0 + 1) =
+      rw (← drop-drop (4 * j) wayFrontBytes rest, d) (numbers-at (members s) end j (rw (← count-length) h)) in
+      number-in 4 (wayFrontBytes + 4 * j) (getD (members s) j 0 + 1) rest (omega (arith, member-small j h .0)) t
 
   -- a booking is in the set where its number is one of the line's
   pub way-members : (b : ℕ) → b < 64 → member s b ≡ any (numberIs rest b) k
@@ -70,6 +70,6 @@ module _ (n k s : ℕ) (rest : List ℕ) (w : WayIs n k s rest) where
       (eq-eqb _ (b + 1) (way-numbers (count (member s) b) j ∙ ap (λ (x : ℕ). x + 1) (listed-at (member s) 64 b h e))))
       (λ e.
       let f = any-e (numberIs rest b) k e in
-      let v : numberAt 4 (5 + 4 * f .0) rest ≡ b + 1 = eqb-true _ (b + 1) (f .2) in
+      let v : numberAt 4 (wayFrontBytes + 4 * f .0) rest ≡ b + 1 = eqb-true _ (b + 1) (f .2) in
       let z : getD (members s) (f .0) 0 ≡ b = omega (arith, way-numbers (f .0) (f .1)) in
       rw z at (member-small (f .0) (f .1) .1))

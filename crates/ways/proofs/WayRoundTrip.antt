@@ -25,8 +25,8 @@ use Rattle.decimal.specs.declared.Field.{Field}
 use Rattle.decimal.specs.declared.Field.the-variants.{Number, Fault}
 use Rattle.decimal.proofs.Fields.{number-in, field-front, field-text}
 use Rattle.decimal.proofs.Laws.{columns-length, written-read, read-written}
-use Rattle.ways.specs.WayText.{members, numbersText, wayFront, wayText}
-use Rattle.ways.specs.Way.{countOf, numberThere, brokenOf, afterNumber, gatherOf, fedAt, asWay, membersOf, afterCount, wayOf}
+use Rattle.ways.specs.WayText.{members, numbersText, wayFrontBytes, wayBytes, wayFront, wayText}
+use Rattle.ways.specs.Way.{countOf, numberThere, sequenceOrForm, afterNumber, gatherOf, lineFeedAt, asWay, membersOf, afterCount, wayLineOf}
 use Rattle.ways.specs.declared.Gathered.{Gathered}
 use Rattle.ways.specs.declared.Gathered.the-variants as G
 use Rattle.ways.specs.declared.Way.the-variants.{Members, Malformed, OutOfLimits, OutOfSequence}
@@ -57,29 +57,29 @@ shape s rest =
     ∙ ap (λ (t : List ℕ). wayFront (sizeOf s) ++ t) (append-assoc (numbersText (members s)) (10 ∷ []) rest)
 
 -- the line feed stands after the numbers
-fed-text : (s : ℕ) (rest : List ℕ) → fedAt (5 + 4 * sizeOf s) (wayText s ++ rest) ≡ true
-unfolding fedAt
-fed-text s rest =
+line-feed-text : (s : ℕ) (rest : List ℕ) → lineFeedAt (wayFrontBytes + 4 * sizeOf s) (wayText s ++ rest) ≡ true
+unfolding lineFeedAt
+line-feed-text s rest =
     let f : List ℕ = wayFront (sizeOf s) in
     let m : List ℕ = numbersText (members s) in
-    let l : length (wayFront (sizeOf s) ++ numbersText (members s)) ≡ 5 + 4 * sizeOf s =
+    let l : length (wayFront (sizeOf s) ++ numbersText (members s)) ≡ wayFrontBytes + 4 * sizeOf s =
     length-append (wayFront (sizeOf s)) (numbersText (members s)) ∙ omega (arith, front-length (sizeOf s), members-length s) in
-    rw (shape s rest, ← append-assoc f m (10 ∷ rest), getD-at (f ++ m) 10 rest 0 (5 + 4 * sizeOf s) l)
+    rw (shape s rest, ← append-assoc f m (10 ∷ rest), getD-at (f ++ m) 10 rest 0 (wayFrontBytes + 4 * sizeOf s) l)
 
 pub size-members : (s : ℕ) → sizeOf s ≡ length (members s)
 unfolding members
 size-members s = size-listed s
 
 -- the line of a set of 1 or more of the first n bookings reads back as that set
-pub way-read : (n s : ℕ) (rest : List ℕ) → n ≤ 64 → 1 ≤ sizeOf s → s < 2 ^ n → wayOf n (wayText s ++ rest) ≡ Members (sizeOf s) s
-unfolding wayOf membersOf
+pub way-read : (n s : ℕ) (rest : List ℕ) → n ≤ 64 → 1 ≤ sizeOf s → s < 2 ^ n → wayLineOf n (wayText s ++ rest) ≡ Members (sizeOf s) s
+unfolding wayLineOf membersOf
 way-read n s rest h o l =
     let k : sizeOf s ≤ n = size-le n s h l in
-    let f : take 5 (wayText s ++ rest) ≡ wayFront (sizeOf s) =
-    rw (shape s rest) (take-at (wayFront (sizeOf s)) (numbersText (members s) ++ (10 ∷ rest)) 5 (front-length (sizeOf s))) in
-    let d : drop 5 (wayText s ++ rest) ≡ numbersText (members s) ++ (10 ∷ rest) =
-    rw (shape s rest) (drop-at (wayFront (sizeOf s)) (numbersText (members s) ++ (10 ∷ rest)) 5 (front-length (sizeOf s))) in
-    rw (f, front-count (sizeOf s) (omega arith), within-i 1 (sizeOf s) n o k, fed-text s rest, d, the-set)
+    let f : take wayFrontBytes (wayText s ++ rest) ≡ wayFront (sizeOf s) =
+    rw (shape s rest) (take-at (wayFront (sizeOf s)) (numbersText (members s) ++ (10 ∷ rest)) wayFrontBytes (front-length (sizeOf s))) in
+    let d : drop wayFrontBytes (wayText s ++ rest) ≡ numbersText (members s) ++ (10 ∷ rest) =
+    rw (shape s rest) (drop-at (wayFront (sizeOf s)) (numbersText (members s) ++ (10 ∷ rest)) wayFrontBytes (front-length (sizeOf s))) in
+    rw (f, front-count (sizeOf s) (omega arith), within-i 1 (sizeOf s) n o k, line-feed-text s rest, d, the-set)
   where
     rising : Rising n 0 (members s)
     rising = rw (members-below n s h l) (listed-rises (member s) n)
@@ -112,9 +112,9 @@ one-more n l s k x z fields p q t a =
       text = rw (c, take-add 4 (4 * k) fields, t, a .text) (ap (λ (y : ℕ). columns 4 y ++ numbersText (a .bs)) i);
     }
 
-broken-no-set : {A : Type 0} (k x : ℕ) (fields : List ℕ) → brokenOf k fields ≡ G.Set x → A
-unfolding brokenOf
-broken-no-set {A} k x fields = go (all (numberThere fields) k)
+refused-no-set : {A : Type 0} (k x : ℕ) (fields : List ℕ) → sequenceOrForm k fields ≡ G.Set x → A
+unfolding sequenceOrForm
+refused-no-set {A} k x fields = go (all (numberThere fields) k)
   where
     go : (b : Bool) → cond b G.OutOfSequence G.Malformed ≡ G.Set x → A
     go true e = clash true refl (cc)
@@ -128,13 +128,13 @@ numbers-accepted n (suc k) l s x fields e =
   where
     go : ((z : ℕ) → gatherOf n z (insert s (z - 1)) k (drop 4 fields) ≡ G.Set x → Numbers n z (insert s (z - 1)) k x (drop 4 fields))
         → (f : Field) → ((z : ℕ) → f ≡ Number z → take 4 fields ≡ columns 4 z)
-        → afterNumber f n l (brokenOf k (drop 4 fields)) (λ z. gatherOf n z (insert s (z - 1)) k (drop 4 fields)) ≡ G.Set x → Numbers n l s (suc k) x fields
+        → afterNumber f n l (sequenceOrForm k (drop 4 fields)) (λ z. gatherOf n z (insert s (z - 1)) k (drop 4 fields)) ≡ G.Set x → Numbers n l s (suc k) x fields
     go next (Number z) t j = pick (within (l + 1) z n) (within-lo (l + 1) z n) (within-hi (l + 1) z n) j
       where
         pick : (b : Bool) → (b ≡ true → l + 1 ≤ z) → (b ≡ true → z ≤ n)
-            → cond b (gatherOf n z (insert s (z - 1)) k (drop 4 fields)) (brokenOf k (drop 4 fields)) ≡ G.Set x → Numbers n l s (suc k) x fields
+            → cond b (gatherOf n z (insert s (z - 1)) k (drop 4 fields)) (sequenceOrForm k (drop 4 fields)) ≡ G.Set x → Numbers n l s (suc k) x fields
         pick true p q i = one-more n l s k x z fields (p refl) (q refl) (t z refl) (next z i)
-        pick false p q i = broken-no-set k x (drop 4 fields) i
+        pick false p q i = refused-no-set k x (drop 4 fields) i
     go next Fault t j = clash true refl (cc)
 
 -- what an accepted line is: the line of the set, which has the count that the line lists, and bookings of n alone
@@ -143,9 +143,9 @@ pub record WayIs (n k s : ℕ) (rest : List ℕ) : Type 0 where
   pub some : 1 ≤ k
   pub small : s < 2 ^ n
   pub listed-count : numberAt 4 1 rest ≡ k
-  pub text : rest ≡ wayText s ++ drop (6 + 4 * k) rest
+  pub text : rest ≡ wayText s ++ drop (wayBytes k) rest
 
-count-front : (front : List ℕ) (k : ℕ) → length front ≤ 5 → countOf front ≡ Number k → front ≡ wayFront k
+count-front : (front : List ℕ) (k : ℕ) → length front ≤ wayFrontBytes → countOf front ≡ Number k → front ≡ wayFront k
 unfolding countOf wayFront fieldAt
 count-front [] k h e = clash true refl (cc)
 count-front (x ∷ t) k h e = go (eqb x 65) (eqb-true x 65) e
@@ -157,15 +157,15 @@ count-front (x ∷ t) k h e = go (eqb x 65) (eqb-true x 65) e
         rw (u, v)
     go false q i = clash true refl (cc)
 
-front-number : (rest : List ℕ) (k : ℕ) → take 5 rest ≡ wayFront k → k < 10 ^ 4 → numberAt 4 1 rest ≡ k
+front-number : (rest : List ℕ) (k : ℕ) → take wayFrontBytes rest ≡ wayFront k → k < 10 ^ 4 → numberAt 4 1 rest ≡ k
 unfolding wayFront
 front-number [] k e h = clash true refl (cc)
 front-number (x ∷ t) k e h = let u : take 4 t ≡ columns 4 k = cc in number-in 4 1 k (x ∷ t) h u
 
 -- the line feed that was found
-fed-is : (at : ℕ) (rest : List ℕ) → fedAt at rest ≡ true → drop at rest ≡ 10 ∷ drop (at + 1) rest
-unfolding fedAt
-fed-is at rest e =
+line-feed-is : (at : ℕ) (rest : List ℕ) → lineFeedAt at rest ≡ true → drop at rest ≡ 10 ∷ drop (at + 1) rest
+unfolding lineFeedAt
+line-feed-is at rest e =
     let v : getD rest at 0 ≡ 10 = eqb-true (getD rest at 0) 10 e in
     elim (split? at (length rest)) [
       | inl l ↦ drop-cons rest at 0 l ∙ rw (v, add-one)
@@ -173,29 +173,29 @@ fed-is at rest e =
     ]
 
 -- the parts of an accepted line
-way-parts : (n k s : ℕ) (rest : List ℕ) → n ≤ 64 → 1 ≤ k → k ≤ n → take 5 rest ≡ wayFront k → fedAt (5 + 4 * k) rest ≡ true
-    → gatherOf n 0 0 k (drop 5 rest) ≡ G.Set s → WayIs n k s rest
+way-parts : (n k s : ℕ) (rest : List ℕ) → n ≤ 64 → 1 ≤ k → k ≤ n → take wayFrontBytes rest ≡ wayFront k → lineFeedAt (wayFrontBytes + 4 * k) rest ≡ true
+    → gatherOf n 0 0 k (drop wayFrontBytes rest) ≡ G.Set s → WayIs n k s rest
 way-parts n k s rest h o l f e g =
-    let a : Numbers n 0 0 k s (drop 5 rest) = numbers-accepted n k 0 0 s (drop 5 rest) g in
+    let a : Numbers n 0 0 k s (drop wayFrontBytes rest) = numbers-accepted n k 0 0 s (drop wayFrontBytes rest) g in
     let m : members s ≡ a .bs =
     ap members (a .value) ∙ members-insert-all n h 0 0 (a .bs) (a .rises) (omega arith) ∙ rw members-zero in
     let c : k ≡ sizeOf s = sym (a .long) ∙ ap length (sym m) ∙ sym (size-members s) in
-    let t : drop 5 rest ≡ numbersText (members s) ++ drop (5 + 4 * k) rest =
-    sym (take-append-drop (4 * k) (drop 5 rest)) ∙ rw (a .text, m, drop-drop (4 * k) 5 rest) in
-    let i : 5 + 4 * k + 1 ≡ 6 + 4 * k = omega arith in
+    let t : drop wayFrontBytes rest ≡ numbersText (members s) ++ drop (wayFrontBytes + 4 * k) rest =
+    sym (take-append-drop (4 * k) (drop wayFrontBytes rest)) ∙ rw (a .text, m, drop-drop (4 * k) wayFrontBytes rest) in
+    let i : wayFrontBytes + 4 * k + 1 ≡ wayBytes k = omega arith in
     record {
       counted = c;
       some = o;
       small = rw (a .value) (insert-all-lt n h 0 0 (a .bs) (a .rises) (omega arith) (omega arith));
       listed-count = front-number rest k f (omega arith);
-      text = sym (take-append-drop 5 rest) ∙ rw (f, t, fed-is (5 + 4 * k) rest e, i, c) (sym (shape s (drop (6 + 4 * sizeOf s) rest)));
+      text = sym (take-append-drop wayFrontBytes rest) ∙ rw (f, t, line-feed-is (wayFrontBytes + 4 * k) rest e, i, c) (sym (shape s (drop (wayBytes (sizeOf s)) rest)));
     }
 
-pub way-accepted : (n k s : ℕ) (rest : List ℕ) → n ≤ 64 → wayOf n rest ≡ Members k s → WayIs n k s rest
-unfolding wayOf membersOf
-way-accepted n k s rest h = go (countOf (take 5 rest)) (λ c. count-front (take 5 rest) c (omega (arith, length-take 5 rest)))
+pub way-accepted : (n k s : ℕ) (rest : List ℕ) → n ≤ 64 → wayLineOf n rest ≡ Members k s → WayIs n k s rest
+unfolding wayLineOf membersOf
+way-accepted n k s rest h = go (countOf (take wayFrontBytes rest)) (λ c. count-front (take wayFrontBytes rest) c (omega (arith, length-take wayFrontBytes rest)))
   where
-    last : (c : ℕ) (r : Gathered) → gatherOf n 0 0 c (drop 5 rest) ≡ r → take 5 rest ≡ wayFront c → fedAt (5 + 4 * c) rest ≡ true → 1 ≤ c → c ≤ n
+    last : (c : ℕ) (r : Gathered) → gatherOf n 0 0 c (drop wayFrontBytes rest) ≡ r → take wayFrontBytes rest ≡ wayFront c → lineFeedAt (wayFrontBytes + 4 * c) rest ≡ true → 1 ≤ c → c ≤ n
         → asWay c r ≡ Members k s → WayIs n k s rest
     last c (G.Set y) g f e o l q =
         let u : c ≡ k = cc in
@@ -204,12 +204,12 @@ way-accepted n k s rest h = go (countOf (take 5 rest)) (λ c. count-front (take 
     last c G.Malformed g f e o l q = clash true refl (cc)
     last c G.OutOfSequence g f e o l q = clash true refl (cc)
 
-    body : (c : ℕ) → take 5 rest ≡ wayFront c → (a b : Bool) → within 1 c n ≡ a → fedAt (5 + 4 * c) rest ≡ b
-        → cond a (cond b (asWay c (gatherOf n 0 0 c (drop 5 rest))) Malformed) OutOfLimits ≡ Members k s → WayIs n k s rest
-    body c f true true p e q = last c (gatherOf n 0 0 c (drop 5 rest)) refl f e (within-lo 1 c n p) (within-hi 1 c n p) q
+    body : (c : ℕ) → take wayFrontBytes rest ≡ wayFront c → (a b : Bool) → within 1 c n ≡ a → lineFeedAt (wayFrontBytes + 4 * c) rest ≡ b
+        → cond a (cond b (asWay c (gatherOf n 0 0 c (drop wayFrontBytes rest))) Malformed) OutOfLimits ≡ Members k s → WayIs n k s rest
+    body c f true true p e q = last c (gatherOf n 0 0 c (drop wayFrontBytes rest)) refl f e (within-lo 1 c n p) (within-hi 1 c n p) q
     body c f true false p e q = clash true refl (cc)
     body c f false b p e q = clash true refl (cc)
 
-    go : (f : Field) → ((c : ℕ) → f ≡ Number c → take 5 rest ≡ wayFront c) → afterCount f n rest ≡ Members k s → WayIs n k s rest
-    go (Number c) r q = body c (r c refl) (within 1 c n) (fedAt (5 + 4 * c) rest) refl refl q
+    go : (f : Field) → ((c : ℕ) → f ≡ Number c → take wayFrontBytes rest ≡ wayFront c) → afterCount f n rest ≡ Members k s → WayIs n k s rest
+    go (Number c) r q = body c (r c refl) (within 1 c n) (lineFeedAt (wayFrontBytes + 4 * c) rest) refl refl q
     go Fault r q = clash true refl (cc)

@@ -5,7 +5,7 @@ use mathlib.Core.Path.{_≡_, refl, sym, ap, _∙_}
 use mathlib.Core.Logic.{inl, inr}
 use mathlib.Core.Bool.{true}
 use mathlib.Core.List.{List, _++_, append-assoc}
-use Prim.Native.Nat.{ℕ, zero, suc, _+_, _*_, _^_, _≤_, _<_}
+use Prim.Native.Nat.{ℕ, zero, suc, _+_, _^_, _≤_, _<_}
 use native.Mathlib.Nat.{eq-or-lt-of-le, le-refl, add-zero}
 use native.Mathlib.Numerals.{add-one}
 use native.Mathlib.Omega.{arith}
@@ -17,8 +17,8 @@ use Rattle.sets.specs.Sets.{sizeOf}
 use Rattle.plan.specs.Limits.{mostWays}
 use Rattle.plan.specs.declared.Judged.the-variants.{Fine, Form, Count, Sequence}
 use Rattle.bounded.proofs.Filled.{filled}
-use Rattle.ways.specs.WayText.{wayText, waysText, sizeAt, waysLength}
-use Rattle.ways.specs.Way.{wayOf}
+use Rattle.ways.specs.WayText.{wayBytes, wayText, waysText, sizeAt, waysLength}
+use Rattle.ways.specs.Way.{wayLineOf}
 use Rattle.ways.specs.Ways.{afterWay, waysOf, noWays, countsListed}
 use Rattle.ways.specs.declared.Way.{Way}
 use Rattle.ways.specs.declared.Way.the-variants.{Members, Malformed, OutOfLimits, OutOfSequence}
@@ -36,7 +36,7 @@ text-length (suc more) i ws =
     rw e
     (omega (arith, text-length more (i + 1) ws, length-step ws i, length-append (wayText (getD ws i 0)) (waysText more (i + 1) ws), way-length (getD ws i 0)))
 
--- the lines of the first a ways take 6 bytes each, and 4 for each booking of each
+-- the lines of the first a ways are as long as their bytes add up to
 pub ways-length : (a : ℕ) (ws : List ℕ) → length (waysText a 0 ws) ≡ waysLength a ws
 ways-length a ws =
     let e : 0 + a ≡ a = omega arith in
@@ -60,14 +60,14 @@ ways-read n first (suc a) i at ws rest acc h v =
     let w : Writable n (getD ws i 0) = v i (le-refl i) (omega arith) in
     let e : (wayText (getD ws i 0) ++ waysText a (i + 1) ws) ++ rest ≡ wayText (getD ws i 0) ++ (waysText a (i + 1) ws ++ rest) =
     append-assoc (wayText s) more rest in
-    let r : wayOf n (wayText (getD ws i 0) ++ (waysText a (i + 1) ws ++ rest)) ≡ Members (sizeOf (getD ws i 0)) (getD ws i 0) =
+    let r : wayLineOf n (wayText (getD ws i 0) ++ (waysText a (i + 1) ws ++ rest)) ≡ Members (sizeOf (getD ws i 0)) (getD ws i 0) =
     way-read n s (more ++ rest) h (w .some) (w .small) in
-    let d : drop (6 + 4 * sizeOf (getD ws i 0)) (wayText (getD ws i 0) ++ (waysText a (i + 1) ws ++ rest)) ≡ waysText a (i + 1) ws ++ rest =
-    drop-at (wayText s) (more ++ rest) (6 + 4 * sizeOf s) (way-length s) in
-    let p : at + 6 + 4 * sizeOf (getD ws i 0) + length (waysText a (i + 1) ws) ≡ at + length (wayText (getD ws i 0) ++ waysText a (i + 1) ws) =
+    let d : drop (wayBytes (sizeOf (getD ws i 0))) (wayText (getD ws i 0) ++ (waysText a (i + 1) ws ++ rest)) ≡ waysText a (i + 1) ws ++ rest =
+    drop-at (wayText s) (more ++ rest) (wayBytes (sizeOf s)) (way-length s) in
+    let p : at + wayBytes (sizeOf (getD ws i 0)) + length (waysText a (i + 1) ws) ≡ at + length (wayText (getD ws i 0) ++ waysText a (i + 1) ws) =
     omega (arith, length-append (wayText s) more, way-length s) in
     rw (e, r, d)
-    (ways-read n first a (i + 1) (at + 6 + 4 * sizeOf s) ws rest (set acc i s) h (λ k l u. v k (omega arith) (omega arith))
+    (ways-read n first a (i + 1) (at + wayBytes (sizeOf s)) ws rest (set acc i s) h (λ k l u. v k (omega arith) (omega arith))
     ∙ ap (λ (q : ℕ). record { judged = Fine; next = q; way = filled a (i + 1) ws (set acc i s) }) p)
 
 -- ---- what is accepted is what is written of it
@@ -86,11 +86,11 @@ sum-size ws i = rw add-one
 
 -- one line more in front
 module _ (n a i at next k s : ℕ) (rest acc ws : List ℕ) (h : i < length acc) (w : WayIs n k s rest)
-    (t : Accepted n a (i + 1) (at + 6 + 4 * k) next (drop (6 + 4 * k) rest) (set acc i s) ws) where
+    (t : Accepted n a (i + 1) (at + wayBytes k) next (drop (wayBytes k) rest) (set acc i s) ws) where
   is-way : getD ws i 0 ≡ s
   is-way = t .kept i (omega arith) ∙ getD-set-same acc i s 0 h
 
-  long : length (wayText (getD ws i 0) ++ waysText a (i + 1) ws) ≡ 6 + 4 * k + length (waysText a (i + 1) ws)
+  long : length (wayText (getD ws i 0) ++ waysText a (i + 1) ws) ≡ wayBytes k + length (waysText a (i + 1) ws)
   long =
       rw is-way
       (length-append (wayText s) (waysText a (i + 1) ws) ∙ omega (arith, way-length s, w .counted))
@@ -98,11 +98,11 @@ module _ (n a i at next k s : ℕ) (rest acc ws : List ℕ) (h : i < length acc)
   one-text : rest ≡ waysText (suc a) i ws ++ drop (length (waysText (suc a) i ws)) rest
   unfolding waysText
   one-text =
-      let d : drop (length (waysText a (i + 1) ws)) (drop (6 + 4 * k) rest) ≡ drop (length (wayText (getD ws i 0) ++ waysText a (i + 1) ws)) rest =
-      drop-drop (length (waysText a (i + 1) ws)) (6 + 4 * k) rest ∙ rw long in
+      let d : drop (length (waysText a (i + 1) ws)) (drop (wayBytes k) rest) ≡ drop (length (wayText (getD ws i 0) ++ waysText a (i + 1) ws)) rest =
+      drop-drop (length (waysText a (i + 1) ws)) (wayBytes k) rest ∙ rw long in
       w .text
       ∙ ap (λ (l : List ℕ). wayText s ++ l) (t .text)
-      ∙ sym (append-assoc (wayText s) (waysText a (i + 1) ws) (drop (length (waysText a (i + 1) ws)) (drop (6 + 4 * k) rest)))
+      ∙ sym (append-assoc (wayText s) (waysText a (i + 1) ws) (drop (length (waysText a (i + 1) ws)) (drop (wayBytes k) rest)))
       ∙ rw (d, is-way)
 
   one-writable : (j : ℕ) → i ≤ j → j < i + suc a → Writable n (getD ws j 0)
@@ -141,13 +141,13 @@ ways-accepted n first zero i at next rest acc ws h b e =
       kept = λ j l. ap (λ (r : List ℕ). getD r j 0) (sym w);
     }
 ways-accepted n first (suc a) i at next rest acc ws h b e =
-    go (λ k s. ways-accepted n first a (i + 1) (at + 6 + 4 * k) next (drop (6 + 4 * k) rest) (set acc i s) ws h (rw length-set (omega arith)))
-    (wayOf n rest) (λ k s. way-accepted n k s rest h) e
+    go (λ k s. ways-accepted n first a (i + 1) (at + wayBytes k) next (drop (wayBytes k) rest) (set acc i s) ws h (rw length-set (omega arith)))
+    (wayLineOf n rest) (λ k s. way-accepted n k s rest h) e
   where
-    go : ((k s : ℕ) → waysOf n first a (i + 1) (at + 6 + 4 * k) (drop (6 + 4 * k) rest) (set acc i s) ≡ record { judged = Fine; next = next; way = ws }
-        → Accepted n a (i + 1) (at + 6 + 4 * k) next (drop (6 + 4 * k) rest) (set acc i s) ws)
+    go : ((k s : ℕ) → waysOf n first a (i + 1) (at + wayBytes k) (drop (wayBytes k) rest) (set acc i s) ≡ record { judged = Fine; next = next; way = ws }
+        → Accepted n a (i + 1) (at + wayBytes k) next (drop (wayBytes k) rest) (set acc i s) ws)
         → (x : Way) → ((k s : ℕ) → x ≡ Members k s → WayIs n k s rest)
-        → afterWay x (first + i) at acc (λ k s. waysOf n first a (i + 1) (at + 6 + 4 * k) (drop (6 + 4 * k) rest) (set acc i s))
+        → afterWay x (first + i) at acc (λ k s. waysOf n first a (i + 1) (at + wayBytes k) (drop (wayBytes k) rest) (set acc i s))
         ≡ record { judged = Fine; next = next; way = ws } → Accepted n (suc a) i at next rest acc ws
     go more (Members k s) w j = one-line n a i at next k s rest acc ws (omega arith) (w k s refl) (more k s j)
     go more Malformed w j = let z : Form (first + i) ≡ Fine = ap (λ (r : Ways). r .judged) j in clash true refl (cc)

@@ -13,6 +13,7 @@ use Rattle.plan.specs.Limits.{within}
 use Rattle.decimal.specs.Decimal.{fieldAt}
 use Rattle.decimal.specs.declared.Field.{Field}
 use Rattle.decimal.specs.declared.Field.the-variants.{Number, Fault}
+use Rattle.ways.specs.WayText.{wayFrontBytes}
 use Rattle.ways.specs.declared.Gathered.{Gathered}
 use Rattle.ways.specs.declared.Gathered.the-variants as G
 use Rattle.ways.specs.declared.Way.{Way}
@@ -31,23 +32,23 @@ unfoldable pub numberThere : List ℕ → ℕ → Bool
 numberThere fields j = isNumber (fieldAt 4 (4 * j) fields)
 
 -- past a number that is out of sequence, k more fields decide between form and sequence
-unfoldable pub brokenOf : ℕ → List ℕ → Gathered
-brokenOf k fields = cond (all (numberThere fields) k) G.OutOfSequence G.Malformed
+unfoldable pub sequenceOrForm : ℕ → List ℕ → Gathered
+sequenceOrForm k fields = cond (all (numberThere fields) k) G.OutOfSequence G.Malformed
 
 -- on with a number that is above the last and at most n
 abbrev pub afterNumber : Field → ℕ → ℕ → Gathered → (ℕ → Gathered) → Gathered
-afterNumber (Number x) n last broken next = cond (within (last + 1) x n) (next x) broken
-afterNumber Fault n last broken next = G.Malformed
+afterNumber (Number x) n last refused next = cond (within (last + 1) x n) (next x) refused
+afterNumber Fault n last refused next = G.Malformed
 
 -- the set s with k numbers more, which rise strictly from above last and are at most n; booking number x has index x - 1
 unfoldable pub gatherOf : ℕ → ℕ → ℕ → ℕ → List ℕ → Gathered
 gatherOf n last s zero fields = G.Set s
 gatherOf n last s (suc k) fields =
-    afterNumber (fieldAt 4 0 fields) n last (brokenOf k (drop 4 fields)) (λ x. gatherOf n x (insert s (x - 1)) k (drop 4 fields))
+    afterNumber (fieldAt 4 0 fields) n last (sequenceOrForm k (drop 4 fields)) (λ x. gatherOf n x (insert s (x - 1)) k (drop 4 fields))
 
 -- a line feed stands at a place of the rest
-unfoldable pub fedAt : ℕ → List ℕ → Bool
-fedAt at rest = eqb (getD rest at 0) 10
+unfoldable pub lineFeedAt : ℕ → List ℕ → Bool
+lineFeedAt at rest = eqb (getD rest at 0) 10
 
 abbrev pub asWay : ℕ → Gathered → Way
 asWay k (G.Set s) = Members k s
@@ -56,7 +57,7 @@ asWay k G.OutOfSequence = OutOfSequence
 
 -- the line after its count k: form, then sequence
 unfoldable pub membersOf : ℕ → ℕ → List ℕ → Way
-membersOf n k rest = cond (fedAt (5 + 4 * k) rest) (asWay k (gatherOf n 0 0 k (drop 5 rest))) Malformed
+membersOf n k rest = cond (lineFeedAt (wayFrontBytes + 4 * k) rest) (asWay k (gatherOf n 0 0 k (drop wayFrontBytes rest))) Malformed
 
 -- a way has 1 to n bookings
 abbrev pub afterCount : Field → ℕ → List ℕ → Way
@@ -64,5 +65,5 @@ afterCount (Number k) n rest = cond (within 1 k n) (membersOf n k rest) OutOfLim
 afterCount Fault n rest = Malformed
 
 -- the first line of the rest of a sheet, as a way of a plan with n bookings
-unfoldable pub wayOf : ℕ → List ℕ → Way
-wayOf n rest = afterCount (countOf (take 5 rest)) n rest
+unfoldable pub wayLineOf : ℕ → List ℕ → Way
+wayLineOf n rest = afterCount (countOf (take wayFrontBytes rest)) n rest

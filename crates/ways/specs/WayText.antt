@@ -21,6 +21,13 @@ numbersText (b ∷ bs) = columns 4 (b + 1) ++ numbersText bs
 unfoldable pub memberText : ℕ → ℕ → List ℕ
 memberText s b = numbersText (cond (member s b) (b ∷ []) [])
 
+-- a way line has so many bytes in front of its numbers, its letter and its count; and so many in all, with k numbers and the line feed
+abbrev pub wayFrontBytes : ℕ
+wayFrontBytes = 5
+
+abbrev pub wayBytes : ℕ → ℕ
+wayBytes k = 6 + 4 * k
+
 -- the letter, and how many bookings follow
 unfoldable pub wayFront : ℕ → List ℕ
 wayFront k = 65 ∷ columns 4 k
@@ -38,6 +45,9 @@ waysText (suc more) i ws = wayText (getD ws i 0) ++ waysText more (i + 1) ws
 unfoldable pub sizeAt : List ℕ → ℕ → ℕ
 sizeAt ws i = sizeOf (getD ws i 0)
 
--- how many bytes the first a ways take
+-- how many bytes the line of way i + 1 has, and the lines of the first a ways
+unfoldable pub bytesAt : List ℕ → ℕ → ℕ
+bytesAt ws i = wayBytes (sizeAt ws i)
+
 unfoldable pub waysLength : ℕ → List ℕ → ℕ
-waysLength a ws = 6 * a + 4 * sum (sizeAt ws) a
+waysLength a ws = sum (bytesAt ws) a

@@ -1,12 +1,13 @@
 -- Reading the way lines of a sheet.
 -- Assumes nothing.
 use mathlib.Core.List.{List}
-use Prim.Native.Nat.{ℕ, zero, suc, _+_, _*_}
+use Prim.Native.Nat.{ℕ, zero, suc, _+_}
 use lib.ListN.{drop, set, replicate}
 use Rattle.plan.specs.Limits.{mostWays}
 use Rattle.plan.specs.declared.Judged.the-variants.{Fine, Form, Count, Sequence}
 use Rattle.decimal.specs.Decimal.{numberAt}
-use Rattle.ways.specs.Way.{wayOf}
+use Rattle.ways.specs.WayText.{wayBytes}
+use Rattle.ways.specs.Way.{wayLineOf}
 use Rattle.ways.specs.declared.Way.{Way}
 use Rattle.ways.specs.declared.Way.the-variants.{Members, Malformed, OutOfLimits, OutOfSequence}
 use Rattle.ways.specs.declared.Ways.{Ways}
@@ -22,7 +23,7 @@ afterWay OutOfSequence l at ws next = record { judged = Sequence l; next = at; w
 unfoldable pub waysOf : ℕ → ℕ → ℕ → ℕ → ℕ → List ℕ → List ℕ → Ways
 waysOf n first zero i at rest ws = record { judged = Fine; next = at; way = ws }
 waysOf n first (suc more) i at rest ws =
-    afterWay (wayOf n rest) (first + i) at ws (λ k s. waysOf n first more (i + 1) (at + 6 + 4 * k) (drop (6 + 4 * k) rest) (set ws i s))
+    afterWay (wayLineOf n rest) (first + i) at ws (λ k s. waysOf n first more (i + 1) (at + wayBytes k) (drop (wayBytes k) rest) (set ws i s))
 
 -- no way yet
 unfoldable pub noWays : List ℕ
@@ -31,4 +32,4 @@ noWays = replicate mostWays 0
 -- the sum of the counts that so many way lines list
 unfoldable pub countsListed : ℕ → List ℕ → ℕ
 countsListed zero rest = 0
-countsListed (suc more) rest = numberAt 4 1 rest + countsListed more (drop (6 + 4 * numberAt 4 1 rest) rest)
+countsListed (suc more) rest = numberAt 4 1 rest + countsListed more (drop (wayBytes (numberAt 4 1 rest)) rest)

@@ -9,8 +9,8 @@ ghost use Rattle.bounded.specs.Bounded.{one, all};
 ghost use Rattle.sets.specs.Sets.{member, sizeOf};
 ghost use Rattle.plan.specs.Limits.{mostBookings, mostWays};
 ghost use Rattle.decimal.specs.Decimal.{fieldAt};
-ghost use Rattle.ways.specs.WayText.{members, numbersText, memberText, wayText, waysText, waysLength};
-ghost use Rattle.ways.specs.Way.{countOf, isNumber, numberThere, brokenOf, gatherOf, fedAt, wayOf};
+ghost use Rattle.ways.specs.WayText.{members, numbersText, memberText, wayBytes, wayText, waysText, waysLength};
+ghost use Rattle.ways.specs.Way.{countOf, isNumber, numberThere, sequenceOrForm, gatherOf, lineFeedAt, wayLineOf};
 ghost use Rattle.ways.specs.Ways.{waysOf, noWays};
 
 // The numbers of a way as a set, or why they are refused.
@@ -33,6 +33,17 @@ pub struct Ways {
     pub judged: Judged,
     pub next: usize,
     pub way: [u64; 16],
+}
+
+// How many bytes of a way line stand in front of its numbers: its letter and its count.
+const WAY_FRONT_BYTES: usize = 5;
+
+// How many bytes the line of a way with k bookings has: its front, k numbers, the line feed.
+fn way_bytes(k: usize) -> usize
+    requires { ⌜ k ≤ mostBookings ⌝ }
+    ensures { λ r. ⌜ r ≡ wayBytes k ⌝ }
+{
+    6 + 4 * k
 }
 
 // The count at the front of a way line, after its letter.
@@ -74,9 +85,9 @@ fn are_numbers(s: &[u8], at: usize, k: usize) -> bool
 }
 
 // What a line is that has a number out of sequence, with the k fields from at on after it.
-fn broken(s: &[u8], at: usize, k: usize) -> Gathered
+fn sequence_or_form(s: &[u8], at: usize, k: usize) -> Gathered
     requires { ⌜ (k ≤ mostBookings) × (at < 65536) ⌝ }
-    ensures { λ r. ⌜ r ≡ brokenOf k (drop at (now (s .entry))) ⌝ }
+    ensures { λ r. ⌜ r ≡ sequenceOrForm k (drop at (now (s .entry))) ⌝ }
 {
     if are_numbers(s, at, k) {
         return Gathered::OutOfSequence;
@@ -98,7 +109,7 @@ fn gather(s: &[u8], at: usize, k: usize, n: usize) -> Gathered
             return Gathered::Malformed;
         };
         if !plan::is_within(last + 1, x, n) {
-            return broken(s, at + 4 * (j + 1), k - (j + 1));
+            return sequence_or_form(s, at + 4 * (j + 1), k - (j + 1));
         }
         set = set | bits[x - 1];
         last = x;
@@ -108,8 +119,8 @@ fn gather(s: &[u8], at: usize, k: usize, n: usize) -> Gathered
 }
 
 // Whether a line feed stands at at.
-fn is_fed(s: &[u8], at: usize) -> bool
-    ensures { λ r. ⌜ r ≡ fedAt at (now (s .entry)) ⌝ }
+fn line_feed_at(s: &[u8], at: usize) -> bool
+    ensures { λ r. ⌜ r ≡ lineFeedAt at (now (s .entry)) ⌝ }
 {
     if at < s.len() {
         return s[at] == 10;
@@ -120,18 +131,18 @@ fn is_fed(s: &[u8], at: usize) -> bool
 // Reads the way line that starts at at, of a plan with n bookings.
 pub fn read_way(s: &[u8], at: usize, n: usize) -> Way
     requires { ⌜ (n ≤ mostBookings) × (at < 32000) ⌝ }
-    ensures { λ r. ⌜ r ≡ wayOf n (drop at (now (s .entry))) ⌝ }
+    ensures { λ r. ⌜ r ≡ wayLineOf n (drop at (now (s .entry))) ⌝ }
 {
-    let Field::Number(k) = read_count(decimal::part(s, at, 5)) else {
+    let Field::Number(k) = read_count(decimal::part(s, at, WAY_FRONT_BYTES)) else {
         return Way::Malformed;
     };
     if !plan::is_within(1, k, n) {
         return Way::OutOfLimits;
     }
-    if !is_fed(s, at + 5 + 4 * k) {
+    if !line_feed_at(s, at + WAY_FRONT_BYTES + 4 * k) {
         return Way::Malformed;
     }
-    match gather(s, at + 5, k, n) {
+    match gather(s, at + WAY_FRONT_BYTES, k, n) {
         Gathered::Set(x) => Way::Members(k, x),
         Gathered::Malformed => Way::Malformed,
         Gathered::OutOfSequence => Way::OutOfSequence,
@@ -157,7 +168,7 @@ pub fn read_ways(s: &[u8], at: usize, n: usize, a: usize, first: usize) -> Ways
         match read_way(s, next, n) {
             Way::Members(k, x) => {
                 way[i] = x;
-                next = next + 6 + 4 * k;
+                next = next + way_bytes(k);
             }
             Way::Malformed => {
                 return ways_so_far(Judged::Form(first + i), next, way);
@@ -204,13 +215,13 @@ fn write_members(buf: &mut [u8], at: usize, s: u64) -> usize
 
 // Writes the line of the way with the set s, and gives the place after it. The count is that of the ones in s.
 pub fn write_way(buf: &mut [u8], at: usize, s: u64) -> usize
-    requires { ⌜ at + 6 + 4 * sizeOf s ≤ length (now buf) ⌝ }
-    ensures next { λ r. ⌜ r ≡ at + 6 + 4 * sizeOf s ⌝ }
+    requires { ⌜ at + wayBytes (sizeOf s) ≤ length (now buf) ⌝ }
+    ensures next { λ r. ⌜ r ≡ at + wayBytes (sizeOf s) ⌝ }
     ensures text { λ _. ⌜ now (buf .exit) ≡ sets (now (buf .entry)) at (wayText s) ⌝ }
 {
     decimal::write_byte(buf, at, b'A');
     decimal::write_field(buf, at + 1, 4, sets::size(s));
-    let next = write_members(buf, at + 5, s);
+    let next = write_members(buf, at + WAY_FRONT_BYTES, s);
     decimal::write_byte(buf, next, 10);
     next + 1
 }
@@ -238,7 +249,7 @@ pub fn ways_size(a: usize, way: [u64; 16]) -> usize
     let mut total = 0;
     let mut i = 0;
     while i < a {
-        total = total + 6 + 4 * sets::size(way[i]);
+        total = total + way_bytes(sets::size(way[i]));
         i += 1;
     }
     total

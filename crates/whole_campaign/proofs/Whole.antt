@@ -8,7 +8,8 @@ use lib.ListN.{length, drop}
 use borrow.Author.Tests.{eqb-true, eq-eqb}
 use Rattle.bounded.proofs.Bools.{and-l, and-r}
 use Rattle.plan.specs.Judging.{isFine}
-use Rattle.sheet.specs.Sheet.{waysPlace, sheetOf}
+use Rattle.lines.specs.Form.{waysPlace}
+use Rattle.sheet.specs.Sheet.{sheetOf}
 use Rattle.sheet.proofs.Accepted.{sheet-valid, sheet-counts}
 use Rattle.verdict.specs.FromPlan.{networkOf}
 use Rattle.verdict.specs.Network.{wayOf}

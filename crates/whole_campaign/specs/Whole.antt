@@ -8,7 +8,8 @@ use mathlib.Core.List.{List, map}
 use Prim.Native.Nat.{ℕ}
 use lib.ListN.{drop}
 use Rattle.ways.specs.Ways.{countsListed}
-use Rattle.sheet.specs.Sheet.{waysPlace, sheetOf}
+use Rattle.lines.specs.Form.{waysPlace}
+use Rattle.sheet.specs.Sheet.{sheetOf}
 use Rattle.run.specs.State.{start}
 use Rattle.run.specs.Bytes.{bytesOf}
 use Rattle.guarantee.specs.Machine.{Asked, nextOrder, machineAnswers, machineStates}

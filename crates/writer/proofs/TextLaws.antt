@@ -1,6 +1,6 @@
 -- The sheet of a record as it is written line by line, and what the writer has in hand at each of its returns.
 -- Assumes nothing.
-use Prim.Native.Nat.{ℕ, _+_, _*_, _≤_, _<_}
+use Prim.Native.Nat.{ℕ, _+_, _≤_, _<_}
 use mathlib.Core.Path.{_≡_, sym, _∙_}
 use mathlib.Core.List.{List, _++_}
 use native.Mathlib.Omega.{arith}
@@ -13,6 +13,7 @@ use Rattle.plan.specs.Record.{recordOf}
 use Rattle.plan.specs.declared.Plan.{Plan}
 use Rattle.plan.specs.declared.Judgement.{Judgement}
 use Rattle.plan.specs.declared.Judgement.the-variants as R
+use Rattle.lines.specs.Form.{headBytes, linksPlace, waysPlace}
 use Rattle.lines.specs.Head.{headText}
 use Rattle.lines.specs.Kinds.{kindsText}
 use Rattle.lines.specs.Links.{linksText}
@@ -26,20 +27,21 @@ use Rattle.writer.specs.declared.Written.the-variants.{Length, Count, Se
 
 -- ---- the four kinds of lines, stored one after the other
 
-pub all-lines : (p : Plan) (d x y z v : List ℕ) → x ≡ sets d 0 (headText (p .n) (p .m) (p .a)) → y ≡ sets x 14 (kindsText (p .n) 0 (p .kind))
-    → z ≡ sets y (14 + 8 * p .n) (linksText (p .m) 0 (p .from) (p .to)) → v ≡ sets z (14 + 8 * p .n + 10 * p .m) (waysText (p .a) 0 (p .way)) → v ≡ sets d 0 (sheetText p)
+pub all-lines : (p : Plan) (d x y z v : List ℕ) (links ways : ℕ) → links ≡ linksPlace (p .n) → ways ≡ waysPlace (p .n) (p .m)
+    → x ≡ sets d 0 (headText (p .n) (p .m) (p .a)) → y ≡ sets x headBytes (kindsText (p .n) 0 (p .kind)) → z ≡ sets y links (linksText (p .m) 0 (p .from) (p .to))
+    → v ≡ sets z ways (waysText (p .a) 0 (p .way)) → v ≡ sets d 0 (sheetText p)
 unfolding sheetText
-all-lines p d x y z v f g h i =
+all-lines p d x y z v links ways q r f g h i =
     let hd : List ℕ = headText (p .n) (p .m) (p .a) in
     let k : List ℕ = kindsText (p .n) 0 (p .kind) in
     let l : List ℕ = linksText (p .m) 0 (p .from) (p .to) in
     let w : List ℕ = waysText (p .a) 0 (p .way) in
-    let a1 : 0 + length (headText (p .n) (p .m) (p .a)) ≡ 14 = rw (head-length (p .n) (p .m) (p .a)) in
-    let a2 : 14 + length (kindsText (p .n) 0 (p .kind)) ≡ 14 + 8 * p .n = rw kinds-length in
-    let a3 : 14 + 8 * p .n + length (linksText (p .m) 0 (p .from) (p .to)) ≡ 14 + 8 * p .n + 10 * p .m = rw links-length in
-    let s1 : sets d 0 (hd ++ (k ++ (l ++ w))) ≡ sets x 14 (k ++ (l ++ w)) = sets-append d 0 hd (k ++ (l ++ w)) ∙ rw (a1, f) in
-    let s2 : sets x 14 (k ++ (l ++ w)) ≡ sets y (14 + 8 * p .n) (l ++ w) = sets-append x 14 k (l ++ w) ∙ rw (a2, g) in
-    let s3 : sets y (14 + 8 * p .n) (l ++ w) ≡ v = sets-append y (14 + 8 * p .n) l w ∙ rw (a3, i, h) in
+    let a1 : 0 + length (headText (p .n) (p .m) (p .a)) ≡ headBytes = rw (head-length (p .n) (p .m) (p .a)) in
+    let a2 : headBytes + length (kindsText (p .n) 0 (p .kind)) ≡ links = rw kinds-length (sym q) in
+    let a3 : links + length (linksText (p .m) 0 (p .from) (p .to)) ≡ ways = rw (q, links-length) (sym r) in
+    let s1 : sets d 0 (hd ++ (k ++ (l ++ w))) ≡ sets x headBytes (k ++ (l ++ w)) = sets-append d 0 hd (k ++ (l ++ w)) ∙ rw (a1, f) in
+    let s2 : sets x headBytes (k ++ (l ++ w)) ≡ sets y links (l ++ w) = sets-append x headBytes k (l ++ w) ∙ rw (a2, g) in
+    let s3 : sets y links (l ++ w) ≡ v = sets-append y links l w ∙ rw (a3, i, h) in
     sym (s1 ∙ s2 ∙ s3)
 
 module _ (p : Plan) (k : ℕ) (e : k ≡ sheetLength p) where

@@ -23,7 +23,7 @@ fn sheet_size(p: Plan) -> usize
     ensures { λ r. ⌜ r ≡ sheetLength p ⌝ }
 {
     let way = p.way;
-    14 + 8 * p.n + 10 * p.m + ways::ways_size(p.a, way)
+    lines::ways_place(p.n, p.m) + ways::ways_size(p.a, way)
 }
 
 // Writes the lines of p at the front of a buffer that has room for them.
@@ -36,9 +36,9 @@ fn write_lines(buf: &mut [u8], p: Plan)
     let to = p.to;
     let way = p.way;
     line_writer::write_head(buf, p.n, p.m, p.a);
-    line_writer::write_kinds(buf, 14, p.n, kind);
-    line_writer::write_links(buf, 14 + 8 * p.n, p.m, from, to);
-    ways::write_ways(buf, 14 + 8 * p.n + 10 * p.m, p.a, way);
+    line_writer::write_kinds(buf, lines::HEAD_BYTES, p.n, kind);
+    line_writer::write_links(buf, lines::links_place(p.n), p.m, from, to);
+    ways::write_ways(buf, lines::ways_place(p.n, p.m), p.a, way);
 }
 
 // Writes the sheet of a record that is fine, if it fits.

@@ -28,4 +28,5 @@ write-booking-spec =
     (search needs)
     (search needs)
     (search needs)
+    (search needs)
     returns)

@@ -24,4 +24,5 @@ write-head-spec =
     (search needs)
     (search needs)
     (search needs)
+    (search needs)
     returns)

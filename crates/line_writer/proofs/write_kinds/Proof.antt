@@ -6,13 +6,14 @@ use borrow.Author.Needs.{needs}
 use native.Mathlib.Nat.{add-zero, sub-zero, mul-zero}
 use lib.ListN.{length}
 use lib.Seq.{sets}
+use Rattle.lines.specs.Form.{bookingBytes}
 use Rattle.lines.specs.Kinds.{kindsText}
 use Rattle.line_writer.proofs.WriteLaws.{kinds-on, kinds-all}
 use Rattle.line_writer.proofs.write_kinds.Statement.{statement}
 use Rattle.line_writer.proofs.write_kinds.Tie as tie
 
 abbrev Inv-loop : tie.InvT-loop
-Inv-loop buf₀ at n kind i₀ buf i = (i ≤ n) × (length buf ≡ length buf₀) × (sets buf (at + 8 * i) (kindsText (n - i) i kind) ≡ sets buf₀ at (kindsText n 0 kind))
+Inv-loop buf₀ at n kind i₀ buf i = (i ≤ n) × (length buf ≡ length buf₀) × (sets buf (at + bookingBytes * i) (kindsText (n - i) i kind) ≡ sets buf₀ at (kindsText n 0 kind))
 
 abbrev μ-loop : tie.MeasureT-loop
 μ-loop buf₀ at n kind i₀ buf i = n - i

@@ -25,4 +25,5 @@ write-link-spec =
     (search needs)
     (search needs)
     (search needs)
+    (search needs)
     returns)

@@ -6,13 +6,14 @@ use borrow.Author.Needs.{needs}
 use native.Mathlib.Nat.{add-zero, sub-zero, mul-zero}
 use lib.ListN.{length}
 use lib.Seq.{sets}
+use Rattle.lines.specs.Form.{linkBytes}
 use Rattle.lines.specs.Links.{linksText}
 use Rattle.line_writer.proofs.WriteLaws.{links-on, links-all}
 use Rattle.line_writer.proofs.write_links.Statement.{statement}
 use Rattle.line_writer.proofs.write_links.Tie as tie
 
 abbrev Inv-loop : tie.InvT-loop
-Inv-loop buf₀ at m from to i₀ buf i = (i ≤ m) × (length buf ≡ length buf₀) × (sets buf (at + 10 * i) (linksText (m - i) i from to) ≡ sets buf₀ at (linksText m 0 from to))
+Inv-loop buf₀ at m from to i₀ buf i = (i ≤ m) × (length buf ≡ length buf₀) × (sets buf (at + linkBytes * i) (linksText (m - i) i from to) ≡ sets buf₀ at (linksText m 0 from to))
 
 abbrev μ-loop : tie.MeasureT-loop
 μ-loop buf₀ at m from to i₀ buf i = m - i

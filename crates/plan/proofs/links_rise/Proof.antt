@@ -12,10 +12,10 @@ use Rattle.plan.proofs.links_rise.Statement.{statement}
 use Rattle.plan.proofs.links_rise.Tie as tie
 
 abbrev Inv-loop : tie.InvT-loop
-Inv-loop n m from to pu₀ pv₀ i₀ pu pv i = (i ≤ m) × (pu ≡ getD (0 ∷ from) i 0) × (pv ≡ getD (0 ∷ to) i 0) × All-far (linkAt n from to) i
+Inv-loop n m from to lastFrom₀ lastTo₀ i₀ lastFrom lastTo i = (i ≤ m) × (lastFrom ≡ getD (0 ∷ from) i 0) × (lastTo ≡ getD (0 ∷ to) i 0) × All-far (linkAt n from to) i
 
 abbrev μ-loop : tie.MeasureT-loop
-μ-loop n m from to pu₀ pv₀ i₀ pu pv i = m - i
+μ-loop n m from to lastFrom₀ lastTo₀ i₀ lastFrom lastTo i = m - i
 
 loop-holds : tie.Need-loop-holds Inv-loop μ-loop
 loop-holds c = (search needs, refl, refl, all-far-none (linkAt _ _ _))

@@ -6,7 +6,7 @@ use native.Mathlib.Omega.{arith}
 use Rattle.ways.proofs.ReadLaws.{no-count, count-out, no-end, by-set}
 use mathlib.Core.Path.{_≡_, sym, ap, _∙_}
 use lib.ListN.{drop}
-use Rattle.ways.specs.Way.{asWay, wayOf}
+use Rattle.ways.specs.Way.{asWay, wayLineOf}
 use borrow.Author.Needs.{needs}
 use Rattle.plan.proofs.LimitLaws.{within-hi-by}
 use Rattle.ways.proofs.read_way.Statement.{statement}
@@ -22,11 +22,11 @@ returns-2 c = search count-out
 few : (c : tie.Else1) → c .before .before .before .k .given .0 .0 ≤ c .before .before .before .before .before .before .before .before .args .n
 few c = within-hi-by _ _ _ _ (c .before .is-within .ensures) (c .if1 .left)
 
-mul-is-fed : tie.Need-mul-is-fed
-mul-is-fed c = omega (arith, few c)
+mul-line-feed-at : tie.Need-mul-line-feed-at
+mul-line-feed-at c = omega (arith, few c)
 
-add-is-fed-2 : tie.Need-add-is-fed-2
-add-is-fed-2 c = omega (arith, few c)
+add-line-feed-at-2 : tie.Need-add-line-feed-at-2
+add-line-feed-at-2 c = omega (arith, few c)
 
 returns-3 : tie.Need-returns-3
 returns-3 c = search no-end
@@ -38,7 +38,7 @@ gather-requires c κs = omega (arith, few (c .before .before))
 line : (c : tie.After-gather) → (
     let k = c .before .before .before .before .before .before in
     let a = k .before .before .before .before .before .args in
-    asWay (k .k .given .0 .0) (c .gather .result) ≡ wayOf (a .n) (drop (a .at) (now (a .s))))
+    asWay (k .k .given .0 .0) (c .gather .result) ≡ wayLineOf (a .n) (drop (a .at) (now (a .s))))
 line c =
     let f = c .before .before in
     let w = f .before .before in
@@ -47,7 +47,7 @@ line c =
     let a = r .before .before .before .args in
     sym
     (by-set (a .n) (a .at) (now (a .s)) _ _ (r .before .part .ensures) (r .read-count .ensures) _ (k .k .given .1) _ (w .is-within .ensures)
-    (f .before .if1 .left) _ (f .is-fed .ensures) (c .before .if2 .left) _ (c .gather .ensures))
+    (f .before .if1 .left) _ (f .line-feed-at .ensures) (c .before .if2 .left) _ (c .gather .ensures))
 
 returns-4 : tie.Need-returns-4
 returns-4 c = ap (asWay _) (sym (c .before .x .given .1)) ∙ line (c .before .before .before)
@@ -70,8 +70,8 @@ read-way-spec =
     (search needs)
     returns-2
     (search needs)
-    mul-is-fed
-    add-is-fed-2
+    mul-line-feed-at
+    add-line-feed-at-2
     (search needs)
     returns-3
     (search needs)

@@ -7,12 +7,14 @@ use native.Mathlib.Nat.{sub-zero}
 use lib.ListN.{length, drop}
 use Prim.Native.Nat.{_+_, _*_, _-_, _≤_}
 use mathlib.Core.Path.{_≡_, refl, _∙_}
+use Rattle.plan.specs.Limits.{mostBookings}
+use Rattle.ways.specs.WayText.{wayBytes}
 use Rattle.ways.specs.Ways.{waysOf, noWays}
 use Rattle.ways.proofs.read_ways.Statement.{statement}
 use Rattle.ways.proofs.read_ways.Tie as tie
 
 abbrev Inv-loop : tie.InvT-loop
-Inv-loop s at n a first way₀ next₀ i₀ way next i = (i ≤ a) × (length way ≡ 16) × (next ≤ at + 262 * i) × (waysOf n first (a - i) i next (drop next s) way ≡ waysOf n first a 0 at (drop at s) noWays)
+Inv-loop s at n a first way₀ next₀ i₀ way next i = (i ≤ a) × (length way ≡ 16) × (next ≤ at + wayBytes mostBookings * i) × (waysOf n first (a - i) i next (drop next s) way ≡ waysOf n first a 0 at (drop at s) noWays)
 
 abbrev μ-loop : tie.MeasureT-loop
 μ-loop s at n a first way₀ next₀ i₀ way next i = a - i
@@ -25,11 +27,11 @@ loop-holds c = (search needs, refl, search needs, simp sub-zero)
 few : (c : tie.After-known-told Inv-loop μ-loop) → c .before .k .given .0 .0 ≤ c .before .before .before .before .before .before .before .args .n
 few c = few-members _ _ _ _ _ (c .before .before .before .read-way .ensures) (c .before .k .given .1)
 
-mul-next : tie.Need-mul-next Inv-loop μ-loop
-mul-next c = omega (arith, few c)
+way-bytes-requires : tie.Need-way-bytes-requires Inv-loop μ-loop
+way-bytes-requires c κs = omega (arith, few c)
 
-add-next-2 : tie.Need-add-next-2 Inv-loop μ-loop
-add-next-2 c = omega (arith, few c)
+add-next : tie.Need-add-next Inv-loop μ-loop
+add-next c = omega (arith, few (c .before))
 
 returns : tie.Need-returns Inv-loop μ-loop
 returns c = c .ways-so-far .ensures ∙ search ways-form
@@ -41,7 +43,7 @@ returns-3 : tie.Need-returns-3 Inv-loop μ-loop
 returns-3 c = c .ways-so-far3 .ensures ∙ search ways-sequence
 
 loop-again : tie.Need-loop-again Inv-loop μ-loop
-loop-again c = (search needs, search needs, omega (arith, few c), search ways-on)
+loop-again c = (search needs, search needs, omega (arith, few (c .before)), search ways-on)
 
 returns-4 : tie.Need-returns-4 Inv-loop μ-loop
 returns-4 c = c .ways-so-far4 .ensures ∙ search ways-end
@@ -57,9 +59,8 @@ read-ways-spec =
     (search needs)
     (search needs)
     (search needs)
-    (search needs)
-    mul-next
-    add-next-2
+    way-bytes-requires
+    add-next
     (search needs)
     (search needs)
     (search needs)

@@ -7,8 +7,8 @@ use Rattle.sheet.specs.Text.{sheetLength}
 use Rattle.writer.proofs.sheet_size.Statement.{statement}
 use Rattle.writer.proofs.sheet_size.Tie as tie
 
-add-result-3 : tie.Need-add-result-3
-add-result-3 c = omega (arith, ways-most _ _ _ (c .ways-size .ensures))
+add-result : tie.Need-add-result
+add-result c = omega (arith, ways-most _ _ _ (c .ways-size .ensures))
 
 returns : tie.Need-returns
 unfolding sheetLength
@@ -20,8 +20,5 @@ sheet-size-spec =
     (tie.spec
     (search needs)
     (search needs)
-    (search needs)
-    (search needs)
-    (search needs)
-    add-result-3
+    add-result
     returns)

@@ -32,11 +32,7 @@ write-lines-spec =
     write-head-requires
     write-kinds-requires
     (search needs)
-    (search needs)
     write-links-requires
-    (search needs)
-    (search needs)
-    (search needs)
     (search needs)
     write-ways-requires
     (search needs)
