@@ -48,9 +48,12 @@ fn full(m: usize, a: usize) -> Plan {
     }
 }
 
-// As many bytes as the longest sheet has.
-fn room(b: u8) -> [u8; 9838] {
-    [b; 9838]
+// How many bytes the longest sheet has.
+const LONGEST: usize = 9838;
+
+// A buffer of that length.
+fn room(b: u8) -> [u8; LONGEST] {
+    [b; LONGEST]
 }
 
 // Writes what is read from a text, and prints the length, and 1 where it is the same text.
@@ -108,7 +111,7 @@ fn write_longest(name: &[u8], n: usize, k: u8) {
 
 // Into a buffer that is a byte shorter.
 fn write_shorter(name: &[u8], n: usize, k: u8) {
-    let mut buf = [7u8; 9837];
+    let mut buf = [7u8; LONGEST - 1];
     write(name, &mut buf, n, k);
 }
 

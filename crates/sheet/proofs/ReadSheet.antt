@@ -29,7 +29,7 @@ use Rattle.ways.specs.WayText.{wayBytes, waysText, waysLength}
 use Rattle.ways.specs.Ways.{noWays}
 use Rattle.ways.proofs.WaysRoundTrip.{ways-length, all-read}
 use Rattle.ways.proofs.TextLaws.{ways-most}
-use Rattle.sheet.specs.Text.{sheetText, sheetLength}
+use Rattle.sheet.specs.Text.{sheetText, sheetLength, longestSheet}
 use Rattle.sheet.specs.Sheet.{kindsIn, linksIn, waysIn, planIn, endOf, bodyOf, sheetOf}
 use Rattle.sheet.proofs.Accepted.{sheet-fine, sheet-accepted}
 
@@ -109,13 +109,15 @@ module _ (p : Plan) (e : recordOf p ≡ R.Fine) where
   unfolding sheetOf bodyOf endOf planIn readPlan
   sheet-read = rw (the-head, the-kinds, the-links, the-ways, eq-eqb _ _ (sym (sheet-length p)))
 
-  -- the longest sheet has 64 bookings, 512 links and 16 ways of 64 bookings
-  pub length-bound : length (sheetText p) ≤ 9838
+  pub length-bound : length (sheetText p) ≤ longestSheet
   unfolding sheetLength
   length-bound =
       let w : waysLength (p .a) (p .way) ≤ wayBytes mostBookings * p .a = ways-most _ (p .a) (p .way) refl in
       omega (arith, sheet-length p, fits .bookings, fits .links, fits .ways)
 
--- no accepted sheet is longer than the longest
-pub sheet-bound : (s : List ℕ) → isFine (sheetOf s .judged) ≡ true → length s ≤ 9838
+pub longest-is : longestSheet ≡ 9838
+longest-is = refl
+
+-- no accepted sheet is longer
+pub sheet-bound : (s : List ℕ) → isFine (sheetOf s .judged) ≡ true → length s ≤ longestSheet
 sheet-bound s e = rw (← (sheet-accepted s e)) (length-bound (sheetOf s .plan) (sheet-fine s e))

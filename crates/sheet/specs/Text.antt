@@ -1,13 +1,14 @@
 -- The sheet of a plan: its lines one after the other.
 -- Assumes nothing.
-use Prim.Native.Nat.{ℕ, _+_}
+use Prim.Native.Nat.{ℕ, _+_, _*_}
 use mathlib.Core.List.{List, _++_}
+use Rattle.plan.specs.Limits.{mostBookings, mostLinks, mostWays}
 use Rattle.plan.specs.declared.Plan.{Plan}
 use Rattle.lines.specs.Form.{waysPlace}
 use Rattle.lines.specs.Head.{headText}
 use Rattle.lines.specs.Kinds.{kindsText}
 use Rattle.lines.specs.Links.{linksText}
-use Rattle.ways.specs.WayText.{waysText, waysLength}
+use Rattle.ways.specs.WayText.{wayBytes, waysText, waysLength}
 
 unfoldable pub sheetText : Plan → List ℕ
 sheetText p = headText (p .n) (p .m) (p .a) ++ (kindsText (p .n) 0 (p .kind) ++ (linksText (p .m) 0 (p .from) (p .to) ++ waysText (p .a) 0 (p .way)))
@@ -15,3 +16,7 @@ sheetText p = headText (p .n) (p .m) (p .a) ++ (kindsText (p .n) 0 (p .kind) ++ 
 -- how many bytes it has
 unfoldable pub sheetLength : Plan → ℕ
 sheetLength p = waysPlace (p .n) (p .m) + waysLength (p .a) (p .way)
+
+-- how many bytes the longest has: as many bookings, links and ways as there may be, and every booking in each way
+abbrev pub longestSheet : ℕ
+longestSheet = waysPlace mostBookings mostLinks + wayBytes mostBookings * mostWays
