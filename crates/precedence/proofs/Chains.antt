@@ -11,7 +11,7 @@ use Rattle.bounded.proofs.Bools.{clash, last?, split?}
 use Rattle.bounded.proofs.Lists.{table-past}
 use Rattle.sets.specs.Sets.{member}
 use Rattle.sets.proofs.Members.{member-zero}
-use Rattle.precedence.specs.Precedence.{before, Precedes, throughAt, throughOf, closureTo, closureOf}
+use Rattle.precedence.specs.Precedence.{inSet, Precedes, throughAt, throughOf, closureTo, closureOf}
 use Rattle.precedence.specs.Precedence.Precedes.{link, chain}
 use Rattle.precedence.proofs.Steps.{step-cases, step-old, step-new}
 
@@ -21,7 +21,7 @@ precedes-trans (chain h e p) q = chain h e (precedes-trans p q)
 
 -- ---- every member is a chain
 
-sound : (d : List ℕ) (k : ℕ) → k ≤ 64 → (u v : ℕ) → v < 64 → before (closureTo d k) u v ≡ true → Precedes d u v
+sound : (d : List ℕ) (k : ℕ) → k ≤ 64 → (u v : ℕ) → v < 64 → inSet (closureTo d k) u v ≡ true → Precedes d u v
 unfolding closureTo
 sound d zero hk u v hv e = link hv e
 sound d (suc k) hk u v hv e =
@@ -31,21 +31,21 @@ sound d (suc k) hk u v hv e =
 
 -- ---- every chain is a member
 
-kept : (d : List ℕ) (k u v : ℕ) → v < 64 → before d u v ≡ true → before (closureTo d k) u v ≡ true
+kept : (d : List ℕ) (k u v : ℕ) → v < 64 → inSet d u v ≡ true → inSet (closureTo d k) u v ≡ true
 unfolding closureTo
 kept d zero u v h e = e
 kept d (suc k) u v h e = step-old (closureTo d k) k u v h (kept d k u v h e)
 
 -- p holds the chains through each w below k
 Closed : List ℕ → ℕ → Type 0
-Closed p k = (w u v : ℕ) → w < k → w < 64 → v < 64 → before p u w ≡ true → before p w v ≡ true → before p u v ≡ true
+Closed p k = (w u v : ℕ) → w < k → w < 64 → v < 64 → inSet p u w ≡ true → inSet p w v ≡ true → inSet p u v ≡ true
 
 more-closed : (p : List ℕ) (k : ℕ) → k < 64 → Closed p k → Closed (throughOf p k) (suc k)
 unfolding Closed
 more-closed p k hk ih w u v hw h64 hv a b =
     ⊎-elim (λ (q : w ≡ k).
-    let a′ : before (throughOf p k) u k ≡ true = rw q at a in
-    let b′ : before (throughOf p k) k v ≡ true = rw q at b in
+    let a′ : inSet (throughOf p k) u k ≡ true = rw q at a in
+    let b′ : inSet (throughOf p k) k v ≡ true = rw q at b in
     step-new p k u v hv
     (⊎-elim (λ x. x) (λ x. x .0) (step-cases p k k v hv b′))
     (⊎-elim (λ x. x) (λ x. x .1) (step-cases p k u k hk a′)))
@@ -62,7 +62,7 @@ unfolding closureTo Closed
 closed d zero hk = λ w u v hw h64 hv a b. absurd (not-suc-le-zero hw)
 closed d (suc k) hk = more-closed (closureTo d k) k hk (closed d k (omega arith))
 
-complete : (d : List ℕ) (u v : ℕ) → v < 64 → Precedes d u v → before (closureTo d 64) u v ≡ true
+complete : (d : List ℕ) (u v : ℕ) → v < 64 → Precedes d u v → inSet (closureTo d 64) u v ≡ true
 unfolding Closed
 complete d u v hv (link h e) = kept d 64 u v hv e
 complete d u v hv (chain {w = w} hw e p) = closed d 64 (omega arith) w u v hw hw hv (kept d 64 u w hw e) (complete d w v hv p)
@@ -73,25 +73,25 @@ ends : {d : List ℕ} {u v : ℕ} → Precedes d u v → v < 64
 ends (link h e) = h
 ends (chain h e p) = ends p
 
-past-none : (d : List ℕ) (u v : ℕ) → 64 ≤ v → before (closureOf d) u v ≡ false
-unfolding before closureOf closureTo throughOf
+past-none : (d : List ℕ) (u v : ℕ) → 64 ≤ v → inSet (closureOf d) u v ≡ false
+unfolding inSet closureOf closureTo throughOf
 past-none d u v h =
     ap (λ (x : ℕ). member x u) (table-past (throughAt (closureTo d 63) 63) 64 v h) ∙ member-zero u
 
-pub closure-chain : (d : List ℕ) (u v : ℕ) → before (closureOf d) u v ≡ true → Precedes d u v
+pub closure-chain : (d : List ℕ) (u v : ℕ) → inSet (closureOf d) u v ≡ true → Precedes d u v
 unfolding closureOf
 closure-chain d u v e =
-    ⊎-elim (λ (h : v < 64). sound d 64 (omega arith) u v h e) (λ (h : 64 ≤ v). clash (before (closureOf d) u v) e (past-none d u v h)) (split? v 64)
+    ⊎-elim (λ (h : v < 64). sound d 64 (omega arith) u v h e) (λ (h : 64 ≤ v). clash (inSet (closureOf d) u v) e (past-none d u v h)) (split? v 64)
 
-pub chain-closure : (d : List ℕ) (u v : ℕ) → Precedes d u v → before (closureOf d) u v ≡ true
+pub chain-closure : (d : List ℕ) (u v : ℕ) → Precedes d u v → inSet (closureOf d) u v ≡ true
 unfolding closureOf
 chain-closure d u v p = complete d u v (ends p) p
 
 -- u is in the set at v of the closure exactly where u precedes v by one link or a chain of links
-pub closure-precedes : (d : List ℕ) (u v : ℕ) → (before (closureOf d) u v ≡ true) ↔ Precedes d u v
+pub closure-precedes : (d : List ℕ) (u v : ℕ) → (inSet (closureOf d) u v ≡ true) ↔ Precedes d u v
 closure-precedes d u v = (closure-chain d u v, chain-closure d u v)
 
 -- where links join only numbers below n, so do chains
-pub precedes-below : (d : List ℕ) (n : ℕ) → ((u v : ℕ) → v < 64 → before d u v ≡ true → (u < n) × (v < n)) → {u v : ℕ} → Precedes d u v → (u < n) × (v < n)
+pub precedes-below : (d : List ℕ) (n : ℕ) → ((u v : ℕ) → v < 64 → inSet d u v ≡ true → (u < n) × (v < n)) → {u v : ℕ} → Precedes d u v → (u < n) × (v < n)
 precedes-below d n low (link h e) = low _ _ h e
 precedes-below d n low (chain h e p) = (low _ _ h e .0, precedes-below d n low p .1)

@@ -12,7 +12,7 @@ use Rattle.bounded.proofs.Bools.{which, or-l, or-r, or-cases, or-false, and-l, 
 use Rattle.bounded.proofs.Lists.{table-length, table-at, table-is}
 use Rattle.sets.specs.Sets.{member}
 use Rattle.sets.proofs.Members.{member-or}
-use Rattle.precedence.specs.Precedence.{before, joinedOf, throughAt, throughOf, closureTo}
+use Rattle.precedence.specs.Precedence.{inSet, joinedOf, throughAt, throughOf, closureTo}
 
 pub joined-yes : (s via k : ℕ) → member s k ≡ true → bitOr s via ≡ joinedOf s via k
 unfolding joinedOf
@@ -28,9 +28,9 @@ joined-member u s via k =
     (λ (e : member s k ≡ false). ap (λ (x : ℕ). member x u) (sym (joined-no s via k e)) ∙ rw e (sym (or-false (member s u))))
     (which (member s k))
 
-through-before : (p : List ℕ) (k u v : ℕ) → v < 64 → before (throughOf p k) u v ≡ before p u v || (before p k v && before p u k)
-unfolding before throughOf throughAt
-through-before p k u v h = ap (λ (x : ℕ). member x u) (table-at (throughAt p k) 64 v h) ∙ joined-member u (getD p v 0) (getD p k 0) k
+through-in : (p : List ℕ) (k u v : ℕ) → v < 64 → inSet (throughOf p k) u v ≡ inSet p u v || (inSet p k v && inSet p u k)
+unfolding inSet throughOf throughAt
+through-in p k u v h = ap (λ (x : ℕ). member x u) (table-at (throughAt p k) 64 v h) ∙ joined-member u (getD p v 0) (getD p k 0) k
 
 -- a step changes nothing where nothing comes before k
 joined-none : (s via k : ℕ) → via ≡ 0 → s ≡ joinedOf s via k
@@ -56,16 +56,16 @@ through-length p k = table-length (throughAt p k) 64
 
 -- what a step has: u before v already, or both ends of a chain through k
 abbrev pub Step : List ℕ → ℕ → ℕ → ℕ → Type 0
-Step p k u v = (before p u v ≡ true) ⊎ ((before p k v ≡ true) × (before p u k ≡ true))
+Step p k u v = (inSet p u v ≡ true) ⊎ ((inSet p k v ≡ true) × (inSet p u k ≡ true))
 
-pub step-cases : (p : List ℕ) (k u v : ℕ) → v < 64 → before (throughOf p k) u v ≡ true → Step p k u v
+pub step-cases : (p : List ℕ) (k u v : ℕ) → v < 64 → inSet (throughOf p k) u v ≡ true → Step p k u v
 step-cases p k u v h e =
-    ⊎-elim (λ x. inl x) (λ x. inr (and-l (before p k v) (before p u k) x, and-r (before p k v) (before p u k) x))
-    (or-cases (before p u v) (before p k v && before p u k) (sym (through-before p k u v h) ∙ e))
+    ⊎-elim (λ x. inl x) (λ x. inr (and-l (inSet p k v) (inSet p u k) x, and-r (inSet p k v) (inSet p u k) x))
+    (or-cases (inSet p u v) (inSet p k v && inSet p u k) (sym (through-in p k u v h) ∙ e))
 
-pub step-old : (p : List ℕ) (k u v : ℕ) → v < 64 → before p u v ≡ true → before (throughOf p k) u v ≡ true
-step-old p k u v h e = through-before p k u v h ∙ or-l (before p u v) (before p k v && before p u k) e
+pub step-old : (p : List ℕ) (k u v : ℕ) → v < 64 → inSet p u v ≡ true → inSet (throughOf p k) u v ≡ true
+step-old p k u v h e = through-in p k u v h ∙ or-l (inSet p u v) (inSet p k v && inSet p u k) e
 
-pub step-new : (p : List ℕ) (k u v : ℕ) → v < 64 → before p k v ≡ true → before p u k ≡ true → before (throughOf p k) u v ≡ true
+pub step-new : (p : List ℕ) (k u v : ℕ) → v < 64 → inSet p k v ≡ true → inSet p u k ≡ true → inSet (throughOf p k) u v ≡ true
 step-new p k u v h a b =
-    through-before p k u v h ∙ or-r (before p u v) (before p k v && before p u k) (a & b)
+    through-in p k u v h ∙ or-r (inSet p u v) (inSet p k v && inSet p u k) (a & b)

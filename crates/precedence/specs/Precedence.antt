@@ -12,13 +12,13 @@ use Rattle.bounded.specs.Bounded.{table}
 use Rattle.sets.specs.Sets.{member}
 
 -- u is in the set at v
-unfoldable pub before : List ℕ → ℕ → ℕ → Bool
-before d u v = member (getD d v 0) u
+unfoldable pub inSet : List ℕ → ℕ → ℕ → Bool
+inSet d u v = member (getD d v 0) u
 
 -- by one link, or by a link and then a chain of links
 pub data Precedes (d : List ℕ) : ℕ → ℕ → Type 0 where
-  link : {u v : ℕ} → v < 64 → before d u v ≡ true → Precedes d u v
-  chain : {u w v : ℕ} → w < 64 → before d u w ≡ true → Precedes d w v → Precedes d u v
+  link : {u v : ℕ} → v < 64 → inSet d u v ≡ true → Precedes d u v
+  chain : {u w v : ℕ} → w < 64 → inSet d u w ≡ true → Precedes d w v → Precedes d u v
 
 -- the set s, with all that comes before k where k is in s
 unfoldable pub joinedOf : ℕ → ℕ → ℕ → ℕ
