@@ -1,114 +1,89 @@
 -- What the code of the check answers at each of its exits.
 -- Assumes nothing.
-use mathlib.Core.Path.{_≡_, sym, ap, _∙_}
-use mathlib.Core.Bool.{Bool, true, false, not, _&&_}
+use mathlib.Core.Path.{_≡_, refl, sym, ap, _∙_}
+use mathlib.Core.Logic.{_≢_}
+use mathlib.Core.Bool.{Bool, true, false, not, _&&_, cond}
 use mathlib.Core.List.{List}
 use Prim.Native.Nat.{ℕ, suc, _+_, _≤_, _<_}
+use native.Mathlib.Nat.{le-refl}
 use native.Mathlib.Numerals.{add-one}
-use native.Mathlib.Omega.{arith}
-use borrow.Author.Tests.{eq-eqb, ne-eqb, lt-ltb, le-ltb, not-true, not-false}
-use lib.Dec.{eqb, ltb}
-use lib.Bits.{bitAnd, bitOr}
+use borrow.Author.Tests.{lt-ltb, le-ltb, not-true, not-false}
+use lib.Dec.{ltb}
+use lib.Bits.{bitAnd}
 use lib.ListN.{getD}
+use lib.Pow.{pow-pos}
 use Rattle.bounded.specs.Bounded.{any, first}
-use Rattle.bounded.proofs.Bools.{and-no-l, and-no-r, and-go}
-use Rattle.bounded.proofs.First.{any-first}
-use Rattle.sets.specs.Sets.{member, gather, without, always, allBelow, some}
-use Rattle.sets.proofs.Members.{member-and}
-use Rattle.sets.proofs.Gather.{member-gather}
-use Rattle.sets.proofs.Whole.{gather-ext, gather-without, lowest-hit, lowest-miss}
+use Rattle.bounded.proofs.Bools.{clash, and-l, and-r, and-no-l, and-no-r, and-go}
+use Rattle.bounded.proofs.Tests.{any-i, any-o}
+use Rattle.bounded.proofs.Loops.{So-far, first-at, first-over}
+use Rattle.sets.specs.Sets.{member, some}
+use Rattle.sets.proofs.Members.{member-and, member-zero}
+use Rattle.sets.proofs.Gather.{gather-is}
+use Rattle.sets.proofs.Facts.{some-on, some-off}
 use Rattle.verdict.specs.declared.Network.{Network}
-use Rattle.verdict.specs.declared.Verdict.the-variants.{Pass, Circular, Unclosed, Unused, Repeated, Stranding}
-use Rattle.verdict.specs.Network.{wayOf, inWay, before, pre, exposed}
-use Rattle.verdict.specs.Check.{circular, gap, unclosed, usedBy, unused, sameWay, repeated, staying, laterRefuge, stranding, strands, check}
-use Rattle.verdict.specs.Parts.{circularIn, gapIn, unclosedIn, sameIn, repeatedIn, usedIn, usedBelow, Spans, leadsAll, sheltersAfter}
-use Rattle.verdict.proofs.Parts.{staying-same, refuges-same}
+use Rattle.verdict.specs.declared.Verdict.{Verdict}
+use Rattle.verdict.specs.declared.Verdict.the-variants.{Pass, Unclosed, Unused, Repeated, Stranding}
+use Rattle.verdict.specs.Network.{wayOf, inWay, firm, exposed}
+use Rattle.verdict.specs.Check.{unclosed, unused, repeated, stays, staying, laterRefuge, stranding, strands, firstStranding}
 
--- ---- one way and one booking
+-- ---- 8: one way and one booking
 
-module _ (g : Network) (k x : ℕ) where
-  exposed-same : member (bitAnd (g .exposed) (getD (g .way) k 0)) x ≡ exposed g x && inWay g (suc k) x
+module _ (g : Network) (ws : List ℕ) (k x : ℕ) (same : ws ≡ g .way) (b : Bool) (e : b ≡ member (bitAnd (g .exposed) (getD ws k 0)) x) where
+  exposed-is : b ≡ exposed g x && inWay g (suc k) x
   unfolding exposed inWay wayOf
-  exposed-same = member-and (g .exposed) (getD (g .way) k 0) x
+  exposed-is = e ∙ rw same (member-and (g .exposed) (getD (g .way) k 0) x)
 
-  pub not-exposed : (b : Bool) → b ≡ member (bitAnd (g .exposed) (getD (g .way) k 0)) x → not b ≡ true → false ≡ stranding g (suc k) x
+  pub not-exposed : not b ≡ true → false ≡ stranding g (suc k) x
   unfolding stranding
-  not-exposed b e n = sym (and-no-l (exposed g x && inWay g (suc k) x) _ (sym exposed-same ∙ sym e ∙ not-true b n))
+  not-exposed n = sym (and-no-l (exposed g x && inWay g (suc k) x) _ (sym exposed-is ∙ not-true b n))
 
-  -- S as the code finds it, by what is apart from x
-  module _ (h : x < g .n) (reach apart : List ℕ) (sp : Spans (g .before) (g .firm) (g .n) reach apart) where
-    abbrev s : ℕ
-    s = bitAnd (getD apart x 0) (getD (g .way) k 0)
-
-    in-s : s ≡ staying g (suc k) x
-    in-s = staying-same g k x h reach apart sp
-
+  module _ (s : ℕ) (q : s ≡ staying g (suc k) x) where
     pub nothing-stays : s ≡ 0 → false ≡ stranding g (suc k) x
-    unfolding stranding some
-    nothing-stays z =
-        sym (and-no-r (exposed g x && inWay g (suc k) x) _ (and-no-l (not (eqb (staying g (suc k) x) 0)) _
-        (ap not (eq-eqb (staying g (suc k) x) 0 (sym in-s ∙ z)))))
+    unfolding stranding
+    nothing-stays z = sym (and-no-r (exposed g x && inWay g (suc k) x) _ (and-no-l (some (staying g (suc k) x)) _ (some-off s (staying g (suc k) x) q z)))
 
-    pub sheltered : (b : Bool) → b ≡ member (bitAnd (g .exposed) (getD (g .way) k 0)) x → not b ≡ false → (s ≡ 0 → ⊥)
-        → (l : ℕ) → l ≡ gather (leadsAll reach s (g .n)) 64
-        → (r : Bool) → r ≡ any (sheltersAfter s (bitOr (getD (g .before) x 0) l) (g .exposed) (g .way) (k + 1)) (g .a)
-        → not r ≡ stranding g (suc k) x
-    unfolding stranding some
-    sheltered b e nb ns l el r er =
-        let last : r ≡ any (laterRefuge g (suc k) x) (g .a) = rw (el, in-s, add-one) at er ∙ refuges-same g k x h reach apart sp in
-        ap not last
-        ∙ and-go (not (eqb (staying g (suc k) x) 0)) _ (ap not (ne-eqb (staying g (suc k) x) 0 (λ z. ns (in-s ∙ z))))
-        ∙ and-go (exposed g x && inWay g (suc k) x) _ (sym exposed-same ∙ sym e ∙ not-false b nb)
+    pub sheltered : not b ≡ false → s ≢ 0 → (r : Bool) → r ≡ any (laterRefuge g (suc k) x) (g .a) → not r ≡ stranding g (suc k) x
+    unfolding stranding
+    sheltered n d r p =
+        ap not p
+        ∙ and-go (some (staying g (suc k) x)) _ (some-on s (staying g (suc k) x) q d)
+        ∙ and-go (exposed g x && inWay g (suc k) x) _ (sym exposed-is ∙ not-false b n)
 
-pub strands-same : (g : Network) (k r : ℕ) → r ≡ first (stranding g (suc k)) (g .n) → ltb r (g .n) ≡ strands g k
-unfolding strands
-strands-same g k r e = rw e (any-first (stranding g (suc k)) (g .n))
+-- ---- 8: all of them
 
--- the bookings below n that are in no way
-unused-same : (g : Network) → g .n ≤ 64 → without (allBelow (g .n)) (gather (usedBelow (g .way) (g .a)) 64) ≡ gather (unused g) (g .n)
-unfolding allBelow always unused usedBy usedBelow usedIn inWay wayOf
-unused-same g h =
-    gather-without always (g .n) (gather (usedBelow (g .way) (g .a)) 64) h
-    ∙ gather-ext _ (unused g) (g .n) (λ b l. ap not (member-gather (usedBelow (g .way) (g .a)) 64 b (omega arith)))
+module _ (g : Network) where
+  -- nothing firm: nothing stays
+  pub nothing-firm : g .firm ≡ 0 → (k : ℕ) → strands g k ≡ false
+  unfolding strands stranding staying stays firm
+  nothing-firm z k = any-o (stranding g (suc k)) (g .n) (λ x l e. clash (some (staying g (suc k) x)) (and-l (some (staying g (suc k) x)) _ (and-r (exposed g x && inWay g (suc k) x) _ e))
+      (some-off (staying g (suc k) x) _ refl (sym (gather-is (stays g (suc k) x) (g .n) 0 (pow-pos (g .n)) (λ s m. member-zero s ∙ rw z (sym (and-no-l _ _ (and-no-l _ _ (member-zero s)))))))))
 
--- ---- the verdict: what is known when each test has been passed
+  pub none-strand : (k : ℕ) → So-far (strands g) k → g .a ≤ k → Pass ≡ firstStranding g
+  none-strand k s h = let e : first (strands g) (g .a) ≡ g .a = sym (first-over (strands g) (g .a) k s h) in rw (e, le-ltb (g .a) (g .a) (le-refl (g .a)))
 
-module _ (g : Network) (small : g .n ≤ 64) (b4 : ℕ) (e4 : b4 ≡ first (circularIn (g .before)) (g .n)) where
-  pub check-4 : b4 < g .n → Circular b4 ≡ check g
-  unfolding check circular pre before circularIn
-  check-4 l = rw (← e4, lt-ltb b4 (g .n) l)
+  pub one-strands : (k x : ℕ) → So-far (strands g) k → k < g .a → So-far (stranding g (suc k)) x → x < g .n → stranding g (suc k) x ≡ true
+      → Stranding (k + 1) x ≡ firstStranding g
+  unfolding strands
+  one-strands k x s h t l e =
+      let p : k ≡ first (strands g) (g .a) = first-at (strands g) (g .a) k s h (any-i (stranding g (suc k)) (g .n) x l e) in
+      let q : x ≡ first (stranding g (suc k)) (g .n) = first-at (stranding g (suc k)) (g .n) x t l e in
+      rw (← p, lt-ltb k (g .a) h, ← q, add-one)
 
-  module _ (h4 : g .n ≤ b4) (k5 : ℕ) (e5 : k5 ≡ first (unclosedIn (g .before) (g .way) (g .n)) (g .a)) where
-    pub check-5 : k5 < g .a → Unclosed (k5 + 1) ≡ check g
-    unfolding check circular pre before circularIn unclosed gap inWay wayOf unclosedIn gapIn
-    check-5 l = rw (← e4, le-ltb b4 (g .n) h4, ← e5, lt-ltb k5 (g .a) l, add-one)
+-- ---- the verdict: what is left of the check from each refusal on
 
-    module _ (h5 : g .a ≤ k5) (b6 : ℕ) (e6 : b6 ≡ first (member (without (allBelow (g .n)) (gather (usedBelow (g .way) (g .a)) 64))) 64) where
-      lowest : b6 ≡ first (member (gather (unused g) (g .n))) 64
-      lowest = e6 ∙ ap (λ (s : ℕ). first (member s) 64) (unused-same g small)
+abbrev pub from-7 : Network → Verdict
+from-7 g = let k = first (repeated g) (g .a) in cond (ltb k (g .a)) (Repeated (suc k)) (firstStranding g)
 
-      pub check-6 : b6 < g .n → Unused b6 ≡ check g
-      unfolding check circular pre before circularIn unclosed gap inWay wayOf unclosedIn gapIn
-      check-6 l =
-          let q = lowest-hit (unused g) (g .n) b6 small lowest l in
-          rw (← e4, le-ltb b4 (g .n) h4, ← e5, le-ltb k5 (g .a) h5, ← q, lt-ltb b6 (g .n) l)
+abbrev pub from-6 : Network → Verdict
+from-6 g = let b = first (unused g) (g .n) in cond (ltb b (g .n)) (Unused b) (from-7 g)
 
-      module _ (h6 : g .n ≤ b6) (k7 : ℕ) (e7 : k7 ≡ first (repeatedIn (g .way)) (g .a)) where
-        pub check-7 : k7 < g .a → Repeated (k7 + 1) ≡ check g
-        unfolding check circular pre before circularIn unclosed gap inWay wayOf unclosedIn gapIn repeated sameWay repeatedIn sameIn
-        check-7 l =
-            let q = lowest-miss (unused g) (g .n) b6 small lowest h6 in
-            rw (← e4, le-ltb b4 (g .n) h4, ← e5, le-ltb k5 (g .a) h5, le-ltb (first (unused g) (g .n)) (g .n) q, ← e7, lt-ltb k7 (g .a) l, add-one)
+abbrev pub from-5 : Network → Verdict
+from-5 g = let k = first (unclosed g) (g .a) in cond (ltb k (g .a)) (Unclosed (suc k)) (from-6 g)
 
-        module _ (h7 : g .a ≤ k7) (k8 : ℕ) (e8 : k8 ≡ first (strands g) (g .a)) where
-          pub check-8 : k8 < g .a → (b8 : ℕ) → b8 ≡ first (stranding g (suc k8)) (g .n) → Stranding (k8 + 1) b8 ≡ check g
-          unfolding check circular pre before circularIn unclosed gap inWay wayOf unclosedIn gapIn repeated sameWay repeatedIn sameIn
-          check-8 l b8 p =
-              let q = lowest-miss (unused g) (g .n) b6 small lowest h6 in
-              rw (← e4, le-ltb b4 (g .n) h4, ← e5, le-ltb k5 (g .a) h5, le-ltb (first (unused g) (g .n)) (g .n) q, ← e7, le-ltb k7 (g .a) h7, ← e8, lt-ltb k8 (g .a) l, ← p, add-one)
+-- r is the first below n that passes f; v says so; w is what is left
+module _ (f : ℕ → Bool) (n r : ℕ) (v : ℕ → Verdict) (w : Verdict) (e : r ≡ first f n) where
+  pub found : r < n → v r ≡ cond (ltb (first f n) n) (v (first f n)) w
+  found h = rw (← e, lt-ltb r n h)
 
-          pub check-pass : g .a ≤ k8 → Pass ≡ check g
-          unfolding check circular pre before circularIn unclosed gap inWay wayOf unclosedIn gapIn repeated sameWay repeatedIn sameIn
-          check-pass l =
-              let q = lowest-miss (unused g) (g .n) b6 small lowest h6 in
-              rw (← e4, le-ltb b4 (g .n) h4, ← e5, le-ltb k5 (g .a) h5, le-ltb (first (unused g) (g .n)) (g .n) q, ← e7, le-ltb k7 (g .a) h7, ← e8, le-ltb k8 (g .a) l)
+  pub passed : n ≤ r → w ≡ cond (ltb (first f n) n) (v (first f n)) w
+  passed h = rw (← e, le-ltb r n h)

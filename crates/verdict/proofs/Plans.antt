@@ -40,8 +40,8 @@ module _ (p : Plan) (v : Valid p) where
   direct = directOf (p .from) (p .to) (p .m)
 
   -- a link joins two bookings of the plan
-  low : (u w : ℕ) → w < 64 → Chains.before direct u w ≡ true → (u < p .n) × (w < p .n)
-  unfolding direct directOf directAt linked joins Chains.before
+  low : (u w : ℕ) → w < 64 → Chains.inSet direct u w ≡ true → (u < p .n) × (w < p .n)
+  unfolding direct directOf directAt linked joins Chains.inSet
   low u w h e =
       let l = gather-e (linked (p .from) (p .to) (p .m) w) 64 u (ap (λ (s : ℕ). member s u) (sym (table-at (directAt (p .from) (p .to) (p .m)) 64 w h)) ∙ e) .1 in
       let t = any-e (joins (p .from) (p .to) w u) (p .m) l in
@@ -70,7 +70,7 @@ module _ (p : Plan) (v : Valid p) where
   ]
 
   pub shape : Shape (networkOf p)
-  unfolding networkOf pre before Chains.before direct
+  unfolding networkOf pre before Chains.inSet direct
   shape =
       record {
         bookings = v .counts .bookings;

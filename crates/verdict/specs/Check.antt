@@ -77,20 +77,23 @@ strands g k = any (stranding g (suc k)) (g .n)
 
 -- ---- the verdict
 
--- the first fault, in the order of the refusals: the lowest booking, or the first way and then the lowest booking
+-- the first way in which some booking strands, and the lowest such booking
+abbrev pub firstStranding : Network → Verdict
+firstStranding g =
+    let k = first (strands g) (g .a) in
+    cond (ltb k (g .a)) (Stranding (suc k) (first (stranding g (suc k)) (g .n))) Pass
+
+-- the first fault, in the order of the refusals: the lowest booking, or the first way
 unfoldable pub check : Network → Verdict
 check g =
     let b4 = first (circular g) (g .n) in
     let k5 = first (unclosed g) (g .a) in
     let b6 = first (unused g) (g .n) in
     let k7 = first (repeated g) (g .a) in
-    let k8 = first (strands g) (g .a) in
-    let b8 = first (stranding g (suc k8)) (g .n) in
     cond (ltb b4 (g .n)) (Circular b4)
     (cond (ltb k5 (g .a)) (Unclosed (suc k5))
     (cond (ltb b6 (g .n)) (Unused b6)
-    (cond (ltb k7 (g .a)) (Repeated (suc k7))
-    (cond (ltb k8 (g .a)) (Stranding (suc k8) b8) Pass))))
+    (cond (ltb k7 (g .a)) (Repeated (suc k7)) (firstStranding g))))
 
 -- the number that the caller gets, 0 for none
 unfoldable pub verdictNumber : Verdict → ℕ

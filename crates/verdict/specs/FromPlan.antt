@@ -15,13 +15,23 @@ use Rattle.verdict.specs.declared.Network.{Network}
 unfoldable pub ofKind : ℕ → ℕ → List ℕ → ℕ → Bool
 ofKind x y ks b = eqb (getD ks b 0) x || eqb (getD ks b 0) y
 
+-- the letters: returnable, pivot, repeatable
+abbrev pub C : ℕ
+C = 67
+
+abbrev pub P : ℕ
+P = 80
+
+abbrev pub R : ℕ
+R = 82
+
 -- firm kinds are P and R
 abbrev pub firmAt : List ℕ → ℕ → Bool
-firmAt = ofKind 80 82
+firmAt = ofKind P R
 
 -- exposed kinds are C and P
 abbrev pub exposedAt : List ℕ → ℕ → Bool
-exposedAt = ofKind 67 80
+exposedAt = ofKind C P
 
 -- link i says that booking u comes before booking v
 unfoldable pub joins : List ℕ → List ℕ → ℕ → ℕ → ℕ → Bool

@@ -1,5 +1,5 @@
 -- The definitions of crate `verdict`.
 pub mod Network
 pub mod FromPlan
-pub mod Parts
 pub mod Check
+pub mod Parts

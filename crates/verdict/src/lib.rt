@@ -4,13 +4,13 @@ ghost use mathlib.Core.Path.{_≡_};
 ghost use mathlib.Core.Bool.{not, _&&_, _||_, cond};
 ghost use Prim.Native.Nat.{suc, _≤_, _<_};
 ghost use lib.Dec.{eqb};
-ghost use lib.Bits.{bitOr};
+ghost use lib.Bits.{bitAnd, bitOr};
 ghost use lib.ListN.{length, replicate};
 ghost use Rattle.bounded.specs.Bounded.{any, first, table};
 ghost use Rattle.sets.specs.Sets.{alone, member, gather, subsetOf};
 ghost use Rattle.verdict.specs.FromPlan.{ofKind, directOf, networkOf, Ends};
-ghost use Rattle.verdict.specs.Parts.{circularIn, gapIn, unclosedIn, usedBelow, repeatedIn, PutApart, Spans, leadsAll, shelters, sheltersAfter, net};
-ghost use Rattle.verdict.specs.Check.{stranding, strands, check};
+ghost use Rattle.verdict.specs.Check.{circular, unclosed, unused, repeated, staying, settledBy, laterRefuge, stranding, firstStranding, check};
+ghost use Rattle.verdict.specs.Parts.{PutUnless, Upto, Stay, PointOf};
 
 // A plan as the rules see it. Booking number b is index b - 1 and bit b - 1 of every set; way[k] is way number k + 1.
 // before[v] has all bookings that precede v, by one link or by a chain of links.
@@ -33,6 +33,15 @@ pub enum Verdict {
     Stranding(usize, usize),
 }
 
+// Booking x of way k + 1, to be tried for stranding: before has what precedes it, stay the firm bookings that may be held still when it
+// is lost.
+struct Point {
+    k: usize,
+    x: usize,
+    before: u64,
+    stay: u64,
+}
+
 // Whether k is one of two kinds.
 fn is_either(k: u8, x: u8, y: u8) -> bool
     ensures { λ r. ⌜ r ≡ (eqb k x || eqb k y) ⌝ }
@@ -44,9 +53,9 @@ fn is_either(k: u8, x: u8, y: u8) -> bool
 }
 
 // The bookings of one of two kinds.
-fn of_kind(bits: &[u64; 64], x: u8, y: u8, kind: [u8; 64], n: usize) -> u64
+fn of_kind(bits: &[u64; 64], kind: &[u8; 64], n: usize, x: u8, y: u8) -> u64
     requires { ⌜ (now bits ≡ table alone 64) × (n ≤ 64) ⌝ }
-    ensures { λ r. ⌜ r ≡ gather (ofKind x y kind) n ⌝ }
+    ensures { λ r. ⌜ r ≡ gather (ofKind x y (now (kind .entry))) n ⌝ }
 {
     let mut s: u64 = 0;
     for b in 0..n {
@@ -83,8 +92,8 @@ pub fn network_of(p: Plan) -> Network
     let bits = sets::bits();
     let links = direct(&bits, from, to, p.m);
     let before = precedence::closure(links);
-    let firm = of_kind(&bits, b'P', b'R', kind, p.n);
-    let exposed = of_kind(&bits, b'C', b'P', kind, p.n);
+    let firm = of_kind(&bits, &kind, p.n, b'P', b'R');
+    let exposed = of_kind(&bits, &kind, p.n, b'C', b'P');
     Network {
         n: p.n,
         a: p.a,
@@ -95,17 +104,20 @@ pub fn network_of(p: Plan) -> Network
     }
 }
 
+// The functions below take the network, and beside it by reference those of its arrays that they read: to read an element of a field
+// would copy the network.
+
 // 4: the lowest booking that precedes itself, or n.
-fn lowest_circular(before: &[u64; 64], n: usize) -> usize
-    requires { ⌜ n ≤ 64 ⌝ }
-    ensures { λ r. ⌜ r ≡ first (circularIn (now (before .entry))) n ⌝ }
+fn lowest_circular(g: Network, before: &[u64; 64]) -> usize
+    requires { ⌜ (now before ≡ g .before) × (g .n ≤ 64) ⌝ }
+    ensures { λ r. ⌜ r ≡ first (circular g) (g .n) ⌝ }
 {
-    for b in 0..n {
+    for b in 0..g.n {
         if sets::has(before[b], b) {
             return b;
         }
     }
-    n
+    g.n
 }
 
 // Whether v is in the way s, and not all of its predecessors are.
@@ -119,48 +131,54 @@ fn has_gap(pred: u64, s: u64, v: usize) -> bool
     false
 }
 
-// Whether the way s has a booking but not all that precede it.
-fn is_unclosed(before: &[u64; 64], s: u64, n: usize) -> bool
-    requires { ⌜ n ≤ 64 ⌝ }
-    ensures { λ r. ⌜ r ≡ any (gapIn (now (before .entry)) s) n ⌝ }
+// Whether way k + 1 has a booking but not all that precede it.
+fn is_unclosed(g: Network, way: &[u64; 16], before: &[u64; 64], k: usize) -> bool
+    requires { ⌜ (now way ≡ g .way) × (now before ≡ g .before) × (g .n ≤ 64) × (k < 16) ⌝ }
+    ensures { λ r. ⌜ r ≡ unclosed g k ⌝ }
 {
-    for v in 0..n {
-        if has_gap(before[v], s, v) {
+    let here = way[k];
+    for v in 0..g.n {
+        if has_gap(before[v], here, v) {
             return true;
         }
     }
     false
 }
 
-// 5: the first way, by index, that has a booking but not all that precede it, or a.
-fn first_unclosed(before: &[u64; 64], way: &[u64; 16], n: usize, a: usize) -> usize
-    requires { ⌜ (n ≤ 64) × (a ≤ 16) ⌝ }
-    ensures { λ r. ⌜ r ≡ first (unclosedIn (now (before .entry)) (now (way .entry)) n) a ⌝ }
+// 5: the first such way, by index, or a.
+fn first_unclosed(g: Network, way: &[u64; 16], before: &[u64; 64]) -> usize
+    requires { ⌜ (now way ≡ g .way) × (now before ≡ g .before) × (g .n ≤ 64) × (g .a ≤ 16) ⌝ }
+    ensures { λ r. ⌜ r ≡ first (unclosed g) (g .a) ⌝ }
 {
-    for k in 0..a {
-        if is_unclosed(before, way[k], n) {
+    for k in 0..g.a {
+        if is_unclosed(g, way, before, k) {
             return k;
         }
     }
-    a
+    g.a
 }
 
-// The bookings of the first a ways.
-fn used(way: [u64; 16], a: usize) -> u64
-    requires { ⌜ a ≤ 16 ⌝ }
-    ensures { λ r. ⌜ r ≡ gather (usedBelow way a) 64 ⌝ }
+// 6: the lowest booking in no way, or n.
+fn lowest_unused(g: Network, way: &[u64; 16]) -> usize
+    requires { ⌜ (now way ≡ g .way) × (g .n ≤ 64) × (g .a ≤ 16) ⌝ }
+    ensures { λ r. ⌜ r ≡ first (unused g) (g .n) ⌝ }
 {
-    let mut s: u64 = 0;
-    for k in 0..a {
-        s = s | way[k];
+    let mut used: u64 = 0;
+    for k in 0..g.a {
+        used = used | way[k];
     }
-    s
+    for b in 0..g.n {
+        if !sets::has(used, b) {
+            return b;
+        }
+    }
+    g.n
 }
 
-// 7: whether an earlier way equals way k + 1.
-fn is_repeated(way: &[u64; 16], k: usize) -> bool
-    requires { ⌜ k < 16 ⌝ }
-    ensures { λ r. ⌜ r ≡ repeatedIn (now (way .entry)) k ⌝ }
+// Whether an earlier way equals way k + 1.
+fn is_repeated(g: Network, way: &[u64; 16], k: usize) -> bool
+    requires { ⌜ (now way ≡ g .way) × (k < 16) ⌝ }
+    ensures { λ r. ⌜ r ≡ repeated g k ⌝ }
 {
     for j in 0..k {
         if way[j] == way[k] {
@@ -170,21 +188,21 @@ fn is_repeated(way: &[u64; 16], k: usize) -> bool
     false
 }
 
-// The first way, by index, that equals an earlier one, or a.
-fn first_repeated(way: &[u64; 16], a: usize) -> usize
-    requires { ⌜ a ≤ 16 ⌝ }
-    ensures { λ r. ⌜ r ≡ first (repeatedIn (now (way .entry))) a ⌝ }
+// 7: the first such way, by index, or a.
+fn first_repeated(g: Network, way: &[u64; 16]) -> usize
+    requires { ⌜ (now way ≡ g .way) × (g .a ≤ 16) ⌝ }
+    ensures { λ r. ⌜ r ≡ first (repeated g) (g .a) ⌝ }
 {
-    for k in 0..a {
-        if is_repeated(way, k) {
+    for k in 0..g.a {
+        if is_repeated(g, way, k) {
             return k;
         }
     }
-    a
+    g.a
 }
 
-// The set s with the set b put in, where x is not in up.
-fn put_apart(s: u64, up: u64, b: u64, x: usize) -> u64
+// The set s with the set b put in, unless x is in up.
+fn put_unless(s: u64, up: u64, b: u64, x: usize) -> u64
     requires { ⌜ x < 64 ⌝ }
     ensures { λ r. ⌜ r ≡ cond (member up x) s (bitOr s b) ⌝ }
 {
@@ -192,161 +210,116 @@ fn put_apart(s: u64, up: u64, b: u64, x: usize) -> u64
 }
 
 // Puts b into the set of each x below n that is not in up.
-fn put_all_apart(apart: &mut [u64; 64], up: u64, b: u64, n: usize)
-    requires { ⌜ (length (now apart) ≡ 64) × (n ≤ 64) ⌝ }
-    ensures { λ _. ⌜ PutApart (now (apart .entry)) up b n (now (apart .exit)) ⌝ }
+fn put_all_unless(stay: &mut [u64; 64], up: u64, b: u64, n: usize)
+    requires { ⌜ (length (now stay) ≡ 64) × (n ≤ 64) ⌝ }
+    ensures { λ _. ⌜ PutUnless (now (stay .entry)) up b n (now (stay .exit)) ⌝ }
 {
     for x in 0..n {
-        apart[x] = put_apart(apart[x], up, b, x);
+        stay[x] = put_unless(stay[x], up, b, x);
     }
 }
 
-// For each booking below n, itself and all that precede it; and in apart, which comes empty, the firm bookings below n that it
-// neither equals nor precedes. Both are found once for all ways.
-fn reaches(before: &[u64; 64], apart: &mut [u64; 64], firm: u64, n: usize) -> [u64; 64]
-    requires { ⌜ (now apart ≡ replicate 64 0) × (n ≤ 64) ⌝ }
-    ensures { λ r. ⌜ Spans (now (before .entry)) firm n r (now (apart .exit)) ⌝ }
+// For each booking: in upto itself and all that precede it; in stay, which comes empty, the firm bookings that may be held still when
+// it is lost. Both serve all ways.
+fn find_spans(g: Network, before: &[u64; 64], upto: &mut [u64; 64], stay: &mut [u64; 64])
+    requires { ⌜ (now before ≡ g .before) × (length (now upto) ≡ 64) × (now stay ≡ replicate 64 0) × (g .n ≤ 64) ⌝ }
+    ensures { λ _. ⌜ Upto g (now (upto .exit)) × Stay g (now (stay .exit)) ⌝ }
 {
     let bits = sets::bits();
-    let mut r = [0u64; 64];
-    for s in 0..n {
+    for s in 0..g.n {
         let b = bits[s];
         let up = before[s] | b;
-        r[s] = up;
-        if sets::has(firm, s) {
-            put_all_apart(apart, up, b, n);
+        upto[s] = up;
+        if sets::has(g.firm, s) {
+            put_all_unless(stay, up, b, g.n);
         }
     }
-    r
 }
 
-// The bookings that equal or precede every member of s, by what reaches each booking.
-fn leading(s: u64, reach: &[u64; 64], n: usize) -> u64
-    requires { ⌜ n ≤ 64 ⌝ }
-    ensures { λ r. ⌜ r ≡ gather (leadsAll (now (reach .entry)) s n) 64 ⌝ }
+// The bookings that precede x, or equal or precede every member of S, which is s.
+fn settled_by(g: Network, upto: &[u64; 64], p: Point, s: u64) -> u64
+    requires { ⌜ Upto g (now upto) × PointOf g p × (s ≡ staying g (suc (p .k)) (p .x)) × (g .n ≤ 64) ⌝ }
+    ensures { λ r. ⌜ r ≡ gather (settledBy g (suc (p .k)) (p .x)) 64 ⌝ }
 {
-    let mut r: u64 = 18446744073709551615;
-    for i in 0..n {
+    let mut r = sets::all_below(64);
+    for i in 0..g.n {
         if sets::has(s, i) {
-            r = r & reach[i];
+            r = r & upto[i];
         }
     }
-    r
+    p.before | r
 }
 
 // Whether a way has all of s, and no exposed booking outside ok.
-fn is_shelter(s: u64, ok: u64, exposed: u64, way: u64) -> bool
-    ensures { λ r. ⌜ r ≡ shelters s ok exposed way ⌝ }
+fn is_refuge(g: Network, s: u64, ok: u64, way: u64) -> bool
+    ensures { λ r. ⌜ r ≡ (subsetOf s way && subsetOf (bitAnd (g .exposed) way) ok) ⌝ }
 {
     if sets::subset(s, way) {
-        return sets::subset(exposed & way, ok);
+        return sets::subset(g.exposed & way, ok);
     }
     false
 }
 
-// Whether one of the ways after way w is such a way.
-fn is_sheltered(s: u64, ok: u64, exposed: u64, way: &[u64; 16], w: usize, a: usize) -> bool
-    requires { ⌜ (w ≤ a) × (a ≤ 16) ⌝ }
-    ensures { λ r. ⌜ r ≡ any (sheltersAfter s ok exposed (now (way .entry)) w) a ⌝ }
+// Whether a later way is a refuge, for S and the settled bookings.
+fn has_refuge(g: Network, way: &[u64; 16], p: Point, settled: u64) -> bool
+    requires { ⌜ (now way ≡ g .way) × PointOf g p × (settled ≡ gather (settledBy g (suc (p .k)) (p .x)) 64) × (g .a ≤ 16) × (p .k < g .a) ⌝ }
+    ensures { λ r. ⌜ r ≡ any (laterRefuge g (suc (p .k)) (p .x)) (g .a) ⌝ }
 {
-    for k in w..a {
-        if is_shelter(s, ok, exposed, way[k]) {
+    let k = p.k;
+    let s = p.stay & way[k];
+    for j in k + 1..g.a {
+        if is_refuge(g, s, settled, way[j]) {
             return true;
         }
     }
     false
 }
 
-// 8: whether x is an exposed booking of way k + 1 that leaves something firm behind with no later way to go to. What is firm stands
-// in apart; the set itself is named for the contract.
-fn is_stranding(
-    before: &[u64; 64],
-    reach: &[u64; 64],
-    apart: &[u64; 64],
-    way: &[u64; 16],
-    firm: u64,
-    exposed: u64,
-    n: usize,
-    a: usize,
-    k: usize,
-    x: usize,
-) -> bool
-    requires { ⌜ Spans (now before) firm n (now reach) (now apart) × (n ≤ 64) × (a ≤ 16) × (k < a) × (x < n) ⌝ }
-    ensures { λ r. ⌜ r ≡ stranding (net n a (now (way .entry)) (now (before .entry)) firm exposed) (suc k) x ⌝ }
+// Whether x is an exposed booking of way k + 1 that leaves something firm behind with no later way to go to.
+fn is_stranding(g: Network, way: &[u64; 16], upto: &[u64; 64], p: Point) -> bool
+    requires { ⌜ (now way ≡ g .way) × Upto g (now upto) × PointOf g p × (g .n ≤ 64) × (g .a ≤ 16) × (p .k < g .a) × (p .x < g .n) ⌝ }
+    ensures { λ r. ⌜ r ≡ stranding g (suc (p .k)) (p .x) ⌝ }
 {
+    let k = p.k;
     let here = way[k];
-    if !sets::has(exposed & here, x) {
+    if !sets::has(g.exposed & here, p.x) {
         return false;
     }
-    let stay = apart[x] & here;
-    if stay == 0 {
+    let s = p.stay & here;
+    if s == 0 {
         return false;
     }
-    let ok = before[x] | leading(stay, reach, n);
-    !is_sheltered(stay, ok, exposed, way, k + 1, a)
+    let settled = settled_by(g, upto, p, s);
+    !has_refuge(g, way, p, settled)
 }
 
-// The lowest stranding booking of way k + 1, or n.
-fn first_stranding(
-    before: &[u64; 64],
-    reach: &[u64; 64],
-    apart: &[u64; 64],
-    way: &[u64; 16],
-    firm: u64,
-    exposed: u64,
-    n: usize,
-    a: usize,
-    k: usize,
-) -> usize
-    requires { ⌜ Spans (now before) firm n (now reach) (now apart) × (n ≤ 64) × (a ≤ 16) × (k < a) ⌝ }
-    ensures { λ r. ⌜ r ≡ first (stranding (net n a (now (way .entry)) (now (before .entry)) firm exposed) (suc k)) n ⌝ }
+// 8: the first way in which some booking strands, and the lowest such booking.
+fn first_stranding(g: Network, way: &[u64; 16], before: &[u64; 64]) -> Verdict
+    requires { ⌜ (now way ≡ g .way) × (now before ≡ g .before) × (g .n ≤ 64) × (g .a ≤ 16) ⌝ }
+    ensures { λ r. ⌜ r ≡ firstStranding g ⌝ }
 {
-    for x in 0..n {
-        if is_stranding(before, reach, apart, way, firm, exposed, n, a, k, x) {
-            return x;
+    if g.firm == 0 {
+        return Verdict::Pass;
+    }
+    let mut upto = [0u64; 64];
+    let mut stay = [0u64; 64];
+    find_spans(g, before, &mut upto, &mut stay);
+    for k in 0..g.a {
+        for x in 0..g.n {
+            let b = before[x];
+            let s = stay[x];
+            let p = Point {
+                k,
+                x,
+                before: b,
+                stay: s,
+            };
+            if is_stranding(g, way, &upto, p) {
+                return Verdict::Stranding(k + 1, x);
+            }
         }
     }
-    n
-}
-
-// Whether some booking of way k + 1 strands.
-fn strands(
-    before: &[u64; 64],
-    reach: &[u64; 64],
-    apart: &[u64; 64],
-    way: &[u64; 16],
-    firm: u64,
-    exposed: u64,
-    n: usize,
-    a: usize,
-    k: usize,
-) -> bool
-    requires { ⌜ Spans (now before) firm n (now reach) (now apart) × (n ≤ 64) × (a ≤ 16) × (k < a) ⌝ }
-    ensures { λ r. ⌜ r ≡ strands (net n a (now (way .entry)) (now (before .entry)) firm exposed) k ⌝ }
-{
-    first_stranding(before, reach, apart, way, firm, exposed, n, a, k) < n
-}
-
-// The first way, by index, in which some booking strands, or a.
-fn first_strands(
-    before: &[u64; 64],
-    reach: &[u64; 64],
-    apart: &[u64; 64],
-    way: &[u64; 16],
-    firm: u64,
-    exposed: u64,
-    n: usize,
-    a: usize,
-) -> usize
-    requires { ⌜ Spans (now before) firm n (now reach) (now apart) × (n ≤ 64) × (a ≤ 16) ⌝ }
-    ensures { λ r. ⌜ r ≡ first (strands (net n a (now (way .entry)) (now (before .entry)) firm exposed)) a ⌝ }
-{
-    for k in 0..a {
-        if strands(before, reach, apart, way, firm, exposed, n, a, k) {
-            return k;
-        }
-    }
-    a
+    Verdict::Pass
 }
 
 // The check: the first fault, in the order of the refusals.
@@ -354,32 +327,23 @@ pub fn check(g: Network) -> Verdict
     requires { ⌜ (g .n ≤ 64) × (g .a ≤ 16) ⌝ }
     ensures { λ r. ⌜ r ≡ check g ⌝ }
 {
-    let n = g.n;
-    let a = g.a;
     let way = g.way;
     let before = g.before;
-    let b4 = lowest_circular(&before, n);
-    if b4 < n {
+    let b4 = lowest_circular(g, &before);
+    if b4 < g.n {
         return Verdict::Circular(b4);
     }
-    let k5 = first_unclosed(&before, &way, n, a);
-    if k5 < a {
+    let k5 = first_unclosed(g, &way, &before);
+    if k5 < g.a {
         return Verdict::Unclosed(k5 + 1);
     }
-    let b6 = sets::lowest(sets::minus(sets::all_below(n), used(way, a)));
-    if b6 < n {
+    let b6 = lowest_unused(g, &way);
+    if b6 < g.n {
         return Verdict::Unused(b6);
     }
-    let k7 = first_repeated(&way, a);
-    if k7 < a {
+    let k7 = first_repeated(g, &way);
+    if k7 < g.a {
         return Verdict::Repeated(k7 + 1);
     }
-    let mut apart = [0u64; 64];
-    let reach = reaches(&before, &mut apart, g.firm, n);
-    let k8 = first_strands(&before, &reach, &apart, &way, g.firm, g.exposed, n, a);
-    if k8 < a {
-        let b8 = first_stranding(&before, &reach, &apart, &way, g.firm, g.exposed, n, a, k8);
-        return Verdict::Stranding(k8 + 1, b8);
-    }
-    Verdict::Pass
+    first_stranding(g, &way, &before)
 }

@@ -2,8 +2,8 @@
 -- Assumes nothing.
 use Rattle.bounded.proofs.Tests.{any-i}
 use borrow.Author.Tests.{eq-eqb, ne-eqb}
-use Rattle.verdict.specs.Parts.{sameIn, repeatedIn}
-use mathlib.Core.Path.{sym}
+use Rattle.verdict.proofs.Parts.{sameIn, repeated-is}
+use mathlib.Core.Path.{sym, _∙_}
 use Prim.Native.Nat.{_≤_, _-_}
 use Rattle.bounded.proofs.Loops.{So-far, so-far-none, so-far-more, any-over}
 use native.Mathlib.Omega.{arith}
@@ -20,16 +20,15 @@ loop-holds : tie.Need-loop-holds Inv-loop μ-loop
 loop-holds c = (omega arith, so-far-none _)
 
 returns : tie.Need-returns Inv-loop μ-loop
-unfolding repeatedIn sameIn
-returns c = let l = c .before .before .before .before in sym (any-i (sameIn (l .before .args .way .now) (l .before .args .k)) (l .before .args .k) (l .loop .j) (omega arith) (eq-eqb _ _ (c .if1 .taken)))
+unfolding sameIn
+returns c = let l = c .before .before .before .before in sym (any-i (sameIn (l .before .args .way .now) (l .before .args .k)) (l .before .args .k) (l .loop .j) (omega arith) (eq-eqb _ _ (c .if1 .taken))) ∙ repeated-is (l .before .args .g) _ _ (l .before .pre .0)
 
 loop-again : tie.Need-loop-again Inv-loop μ-loop
 unfolding sameIn
 loop-again c = (omega arith, so-far-more _ _ (c .before .before .before .before .loop .inv .1) (ne-eqb _ _ (c .if1 .left)))
 
 returns-2 : tie.Need-returns-2 Inv-loop μ-loop
-unfolding repeatedIn
-returns-2 c = any-over _ _ _ (c .before .loop .inv .1) (omega arith)
+returns-2 c = let l = c .before in any-over _ _ _ (l .loop .inv .1) (omega arith) ∙ repeated-is (l .before .args .g) _ _ (l .before .pre .0)
 
 pub is-repeated-spec : {M : Type 1} → statement M
 is-repeated-spec =

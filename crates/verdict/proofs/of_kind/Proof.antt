@@ -13,17 +13,17 @@ use Rattle.verdict.proofs.of_kind.Statement.{statement}
 use Rattle.verdict.proofs.of_kind.Tie as tie
 
 abbrev Inv-loop : tie.InvT-loop
-Inv-loop bits x y n kind s₀ b₀ s b = (b ≤ n) × (s ≡ gather (ofKind x y kind) b)
+Inv-loop bits kind n x y s₀ b₀ s b = (b ≤ n) × (s ≡ gather (ofKind x y kind) b)
 
 abbrev μ-loop : tie.MeasureT-loop
-μ-loop bits x y n kind s₀ b₀ s b = n - b
+μ-loop bits kind n x y s₀ b₀ s b = n - b
 
 loop-holds : tie.Need-loop-holds Inv-loop μ-loop
 loop-holds c = (omega arith, sym (gather-zero _))
 
 loop-again : tie.Need-loop-again Inv-loop μ-loop
 unfolding ofKind
-loop-again c = let l = c .before .before .before in (
+loop-again c = let l = c .before .before .before .before in (
   omega arith,
   ⊎-elim (λ w. w .2 ∙ ap₂ bitOr (l .loop .inv .1) refl ∙ gather-alone _ (l .before .pre .0) _ _ (omega arith) (sym (c .before .is-either .ensures) ∙ w .0 .taken))
       (λ w. w .1 ∙ l .loop .inv .1 ∙ gather-skip _ _ (sym (c .before .is-either .ensures) ∙ w .0 .left)) (c .if1 .came),
