@@ -131,28 +131,17 @@ fn has_gap(pred: u64, s: u64, v: usize) -> bool
     false
 }
 
-// Whether way k + 1 has a booking but not all that precede it.
-fn is_unclosed(g: Network, way: &[u64; 16], before: &[u64; 64], k: usize) -> bool
-    requires { ⌜ (now way ≡ g .way) × (now before ≡ g .before) × (g .n ≤ 64) × (k < 16) ⌝ }
-    ensures { λ r. ⌜ r ≡ unclosed g k ⌝ }
-{
-    let here = way[k];
-    for v in 0..g.n {
-        if has_gap(before[v], here, v) {
-            return true;
-        }
-    }
-    false
-}
-
-// 5: the first such way, by index, or a.
+// 5: the first way, by index, that has a booking but not all that precede it, or a.
 fn first_unclosed(g: Network, way: &[u64; 16], before: &[u64; 64]) -> usize
     requires { ⌜ (now way ≡ g .way) × (now before ≡ g .before) × (g .n ≤ 64) × (g .a ≤ 16) ⌝ }
     ensures { λ r. ⌜ r ≡ first (unclosed g) (g .a) ⌝ }
 {
     for k in 0..g.a {
-        if is_unclosed(g, way, before, k) {
-            return k;
+        let here = way[k];
+        for v in 0..g.n {
+            if has_gap(before[v], here, v) {
+                return k;
+            }
         }
     }
     g.a
@@ -175,27 +164,16 @@ fn lowest_unused(g: Network, way: &[u64; 16]) -> usize
     g.n
 }
 
-// Whether an earlier way equals way k + 1.
-fn is_repeated(g: Network, way: &[u64; 16], k: usize) -> bool
-    requires { ⌜ (now way ≡ g .way) × (k < 16) ⌝ }
-    ensures { λ r. ⌜ r ≡ repeated g k ⌝ }
-{
-    for j in 0..k {
-        if way[j] == way[k] {
-            return true;
-        }
-    }
-    false
-}
-
-// 7: the first such way, by index, or a.
+// 7: the first way, by index, that equals an earlier one, or a.
 fn first_repeated(g: Network, way: &[u64; 16]) -> usize
     requires { ⌜ (now way ≡ g .way) × (g .a ≤ 16) ⌝ }
     ensures { λ r. ⌜ r ≡ first (repeated g) (g .a) ⌝ }
 {
     for k in 0..g.a {
-        if is_repeated(g, way, k) {
-            return k;
+        for j in 0..k {
+            if way[j] == way[k] {
+                return k;
+            }
         }
     }
     g.a
