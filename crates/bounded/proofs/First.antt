@@ -7,10 +7,9 @@ use Prim.Native.Nat.{ℕ, zero, suc, _+_, _≤_, _<_}
 use native.Mathlib.Nat.{le-refl}
 use native.Mathlib.Omega.{arith}
 use lib.Dec.{ltb}
-use borrow.Author.Tests.{ltb-true, ltb-false, lt-ltb}
-use Rattle.bounded.specs.Bounded.{seek, first, any}
-use Rattle.bounded.proofs.Bools.{which, clash, same?, same-test, split?}
-use Rattle.bounded.proofs.Tests.{any-i, any-e}
+use borrow.Author.Tests.{ltb-true, ltb-false}
+use Rattle.bounded.specs.Bounded.{seek, first}
+use Rattle.bounded.proofs.Bools.{which, clash, same?}
 
 -- r is the least of the numbers below n that pass f, or n
 pub record Least (f : ℕ → Bool) (n r : ℕ) : Type 0 where
@@ -67,13 +66,3 @@ first-ext f g n h =
     let l = first-least g n in
     first-is f n (first g n)
     (record { high = l .high; before = λ j p. h j (omega (arith, l .high)) ∙ l .before j p; at = λ p. h (first g n) p ∙ l .at p })
-
--- some number below n passes where the first that passes is below n
-pub any-first : (f : ℕ → Bool) (n : ℕ) → ltb (first f n) n ≡ any f n
-any-first f n =
-    same-test (ltb (first f n) n) (any f n)
-    (λ e. let l = ltb-true (first f n) n e in any-i f n (first f n) l (first-least f n .at l))
-    (λ e. let w = any-e f n e in elim (split? (first f n) n) [
-      | inl l ↦ lt-ltb (first f n) n l
-      | inr l ↦ clash (f (w .0)) (w .2) (first-least f n .before (w .0) (omega arith))
-    ])

@@ -1,4 +1,4 @@
--- A test of every number below n, done at once: any, all and first over a test, as operations on the gathered set.
+-- A test of every number below n, done at once: any and all over a test, as operations on the gathered set.
 -- Assumes nothing.
 use mathlib.Core.Path.{_≡_, refl, sym, ap, _∙_, ap₂}
 use mathlib.Core.Logic.{inl, inr}
@@ -12,8 +12,7 @@ use native.Mathlib.Numerals.{add-one}
 use lib.Pow.{pow-pos}
 use lib.Bits.{bitAnd, bitOr, and-le-l, or-lt}
 use lib.ListN.{getD}
-use Rattle.bounded.proofs.Bools.{split?, and-no-l, clash, same-test, imp-i, imp-e}
-use Rattle.bounded.proofs.First.{Least, first-least, first-is}
+use Rattle.bounded.proofs.Bools.{split?, and-no-l, same-test, imp-i, imp-e}
 use Rattle.bounded.proofs.Tests.{any-i, any-e, all-i, all-e}
 use Rattle.bounded.specs.Bounded.{imp, any, all, first}
 use Rattle.sets.specs.Sets.{member, gather, only, without, always, allBelow, some, subsetOf}
@@ -77,27 +76,6 @@ subset-all p q n s t h e m =
     (λ a. all-i (λ i. imp (p i) (q i)) n (λ i l. imp-i (p i) (q i) (λ z. sym (m i l) ∙ subset-e (gather p n) t i a (omega arith) (gather-i p n i l z))))
     (λ a. subset-i (gather p n) t (λ i l z. let w = gather-e p n i z in
     m i (w .0) ∙ imp-e (p i) (q i) (all-e (λ i. imp (p i) (q i)) n a i (w .0)) (w .1))))
-
--- ---- the lowest member of a gathered set, found or not
-
-module _ (f : ℕ → Bool) (n b : ℕ) (h : n ≤ 64) (e : b ≡ first (member (gather f n)) 64) where
-  low : Least (member (gather f n)) 64 b
-  low = rw e (first-least (member (gather f n)) 64)
-
-  pub lowest-hit : b < n → b ≡ first f n
-  lowest-hit l =
-      sym (first-is f n b
-      (record {
-        high = omega arith;
-        before = λ j k. sym (member-gather f n j (omega arith)) ∙ low .before j k;
-        at = λ k. sym (member-gather f n b k) ∙ low .at (omega arith);
-      }))
-
-  pub lowest-miss : n ≤ b → n ≤ first f n
-  lowest-miss l = elim (split? (first f n) n) [
-    | inl k ↦ clash (f (first f n)) (first-least f n .at k) (sym (member-gather f n (first f n) k) ∙ low .before (first f n) (omega arith))
-    | inr k ↦ k
-  ]
 
 -- ---- the union of those sets of a list that a set picks
 

@@ -1,6 +1,6 @@
 -- What the code of the check answers at each of its exits.
 -- Assumes nothing.
-use mathlib.Core.Path.{_≡_, refl, sym, ap, _∙_}
+use mathlib.Core.Path.{_≡_, sym, ap, _∙_}
 use mathlib.Core.Logic.{_≢_}
 use mathlib.Core.Bool.{Bool, true, false, not, _&&_, cond}
 use mathlib.Core.List.{List}
@@ -11,15 +11,13 @@ use borrow.Author.Tests.{lt-ltb, le-ltb, not-true, not-false}
 use lib.Dec.{ltb}
 use lib.Bits.{bitAnd}
 use lib.ListN.{getD}
-use lib.Pow.{pow-pos}
 use Rattle.bounded.specs.Bounded.{any, first}
 use Rattle.bounded.proofs.Bools.{clash, and-l, and-r, and-no-l, and-no-r, and-go}
 use Rattle.bounded.proofs.Tests.{any-i, any-o}
 use Rattle.bounded.proofs.Loops.{So-far, first-at, first-over}
 use Rattle.sets.specs.Sets.{member, some}
 use Rattle.sets.proofs.Members.{member-and, member-zero}
-use Rattle.sets.proofs.Gather.{gather-is}
-use Rattle.sets.proofs.Facts.{some-on, some-off}
+use Rattle.sets.proofs.Facts.{some-e, some-on, some-off}
 use Rattle.verdict.specs.declared.Network.{Network}
 use Rattle.verdict.specs.declared.Verdict.{Verdict}
 use Rattle.verdict.specs.declared.Verdict.the-variants.{Pass, Unclosed, Unused, Repeated, Stranding}
@@ -55,8 +53,11 @@ module _ (g : Network) where
   -- nothing firm: nothing stays
   pub nothing-firm : g .firm ≡ 0 → (k : ℕ) → strands g k ≡ false
   unfolding strands stranding staying stays firm
-  nothing-firm z k = any-o (stranding g (suc k)) (g .n) (λ x l e. clash (some (staying g (suc k) x)) (and-l (some (staying g (suc k) x)) _ (and-r (exposed g x && inWay g (suc k) x) _ e))
-      (some-off (staying g (suc k) x) _ refl (sym (gather-is (stays g (suc k) x) (g .n) 0 (pow-pos (g .n)) (λ s m. member-zero s ∙ rw z (sym (and-no-l _ _ (and-no-l _ _ (member-zero s)))))))))
+  nothing-firm z k =
+      any-o (stranding g (suc k)) (g .n) (λ x l e.
+      let t = some-e (stays g (suc k) x) (g .n) (and-l (some (staying g (suc k) x)) _ (and-r (exposed g x && inWay g (suc k) x) _ e)) in
+      let f = and-l (firm g (t .0)) _ (and-l (firm g (t .0) && inWay g (suc k) (t .0)) _ (t .2)) in
+      clash (firm g (t .0)) f (ap (λ (s : ℕ). member s (t .0)) z ∙ member-zero (t .0)))
 
   pub none-strand : (k : ℕ) → So-far (strands g) k → g .a ≤ k → Pass ≡ firstStranding g
   none-strand k s h = let e : first (strands g) (g .a) ≡ g .a = sym (first-over (strands g) (g .a) k s h) in rw (e, le-ltb (g .a) (g .a) (le-refl (g .a)))
