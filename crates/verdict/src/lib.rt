@@ -8,7 +8,7 @@ ghost use lib.Bits.{bitAnd, bitOr};
 ghost use lib.ListN.{length, replicate};
 ghost use Rattle.bounded.specs.Bounded.{any, first, table};
 ghost use Rattle.sets.specs.Sets.{alone, member, gather, subsetOf};
-ghost use Rattle.verdict.specs.FromPlan.{ofKind, directOf, networkOf, Ends};
+ghost use Rattle.verdict.specs.FromPlan.{firmAt, exposedAt, directOf, networkOf, Ends};
 ghost use Rattle.verdict.specs.Check.{circular, unclosed, unused, repeated, staying, settledBy, laterRefuge, stranding, firstStranding, check};
 ghost use Rattle.verdict.specs.Parts.{PutUnless, Upto, Stay, PointOf};
 
@@ -33,6 +33,12 @@ pub enum Verdict {
     Stranding(usize, usize),
 }
 
+// The bookings that stay once they are held, and those that can be refused for good.
+struct Kinds {
+    firm: u64,
+    exposed: u64,
+}
+
 // Booking x of way k + 1, to be tried for stranding: before has what precedes it, stay the firm bookings that may be held still when it
 // is lost.
 struct Point {
@@ -52,18 +58,22 @@ fn is_either(k: u8, x: u8, y: u8) -> bool
     k == y
 }
 
-// The bookings of one of two kinds.
-fn of_kind(bits: &[u64; 64], kind: &[u8; 64], n: usize, x: u8, y: u8) -> u64
+// The bookings below n by their kinds: firm are P and R, exposed C and P.
+fn kinds_of(bits: &[u64; 64], kind: &[u8; 64], n: usize) -> Kinds
     requires { ⌜ (now bits ≡ table alone 64) × (n ≤ 64) ⌝ }
-    ensures { λ r. ⌜ r ≡ gather (ofKind x y (now (kind .entry))) n ⌝ }
+    ensures { λ r. ⌜ (r .firm ≡ gather (firmAt (now (kind .entry))) n) × (r .exposed ≡ gather (exposedAt (now (kind .entry))) n) ⌝ }
 {
-    let mut s: u64 = 0;
+    let mut firm: u64 = 0;
+    let mut exposed: u64 = 0;
     for b in 0..n {
-        if is_either(kind[b], x, y) {
-            s = s | bits[b];
+        if is_either(kind[b], b'P', b'R') {
+            firm = firm | bits[b];
+        }
+        if is_either(kind[b], b'C', b'P') {
+            exposed = exposed | bits[b];
         }
     }
-    s
+    Kinds { firm, exposed }
 }
 
 // The direct predecessors of each booking, by the first m links.
@@ -92,15 +102,14 @@ pub fn network_of(p: Plan) -> Network
     let bits = sets::bits();
     let links = direct(&bits, from, to, p.m);
     let before = precedence::closure(links);
-    let firm = of_kind(&bits, &kind, p.n, b'P', b'R');
-    let exposed = of_kind(&bits, &kind, p.n, b'C', b'P');
+    let kinds = kinds_of(&bits, &kind, p.n);
     Network {
         n: p.n,
         a: p.a,
         way,
         before,
-        firm,
-        exposed,
+        firm: kinds.firm,
+        exposed: kinds.exposed,
     }
 }
 

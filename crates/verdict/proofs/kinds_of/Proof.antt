@@ -1,0 +1,58 @@
+-- `verdict::kinds_of` meets its contract.
+-- Assumes nothing.
+use mathlib.Core.Path.{_≡_, refl, sym, ap₂, _∙_}
+use mathlib.Core.Logic.{⊎-elim}
+use Prim.Native.Nat.{_≤_, _-_}
+use native.Mathlib.Omega.{arith}
+use lib.Bits.{bitOr}
+use Rattle.sets.specs.Sets.{gather}
+use Rattle.sets.proofs.Gather.{gather-zero, gather-skip}
+use Rattle.sets.proofs.Operations.{gather-alone}
+use Rattle.verdict.specs.FromPlan.{ofKind, firmAt, exposedAt}
+use Rattle.verdict.proofs.kinds_of.Statement.{statement}
+use Rattle.verdict.proofs.kinds_of.Tie as tie
+
+abbrev Inv-loop : tie.InvT-loop
+Inv-loop bits kind n firm₀ exposed₀ b₀ firm exposed b = (b ≤ n) × (firm ≡ gather (firmAt kind) b) × (exposed ≡ gather (exposedAt kind) b)
+
+abbrev μ-loop : tie.MeasureT-loop
+μ-loop bits kind n firm₀ exposed₀ b₀ firm exposed b = n - b
+
+loop-holds : tie.Need-loop-holds Inv-loop μ-loop
+loop-holds c = (omega arith, sym (gather-zero _), sym (gather-zero _))
+
+loop-again : tie.Need-loop-again Inv-loop μ-loop
+unfolding ofKind
+loop-again c =
+    let j = c .before .before .before in
+    let l = j .before .before .before .before in
+    let t = l .before .pre .0 in (
+      omega arith,
+      ⊎-elim (λ w. w .2 ∙ ap₂ bitOr (l .loop .inv .1) refl ∙ gather-alone _ t _ _ (omega arith) (sym (j .before .is-either .ensures) ∙ w .0 .taken))
+          (λ w. w .1 ∙ l .loop .inv .1 ∙ gather-skip _ _ (sym (j .before .is-either .ensures) ∙ w .0 .left)) (j .if1 .came),
+      ⊎-elim (λ w. w .2 ∙ ap₂ bitOr (l .loop .inv .2) refl ∙ gather-alone _ t _ _ (omega arith) (sym (c .before .is-either2 .ensures) ∙ w .0 .taken))
+          (λ w. w .1 ∙ l .loop .inv .2 ∙ gather-skip _ _ (sym (c .before .is-either2 .ensures) ∙ w .0 .left)) (c .if2 .came),
+    )
+
+returns : tie.Need-returns Inv-loop μ-loop
+returns c = let e : c .before .loop .b ≡ c .before .before .args .n = omega arith in (rw e at (c .before .loop .inv .1), rw e at (c .before .loop .inv .2))
+
+pub kinds-of-spec : {M : Type 1} → statement M
+kinds-of-spec =
+    tie.close
+    (tie.spec
+    Inv-loop
+    μ-loop
+    loop-holds
+    (omega arith)
+    (omega arith)
+    (omega arith)
+    (omega arith)
+    (omega arith)
+    (omega arith)
+    (omega arith)
+    (omega arith)
+    (omega arith)
+    (omega arith)
+    loop-again
+    returns)
