@@ -4,7 +4,7 @@ use mathlib.Core.Path.{_≡_, refl, sym, ap, _∙_}
 use mathlib.Core.Bool.{Bool, true, false, not, _&&_, cond}
 use mathlib.Core.Logic.{inl, inr}
 use mathlib.Core.List.{List}
-use Prim.Native.Nat.{ℕ, _-_, _≤_}
+use Prim.Native.Nat.{ℕ, _≤_}
 use lib.ListN.{length}
 use lib.Dec.{eqb}
 use borrow.Author.Tests.{eq-eqb, ne-eqb, eqb-true, not-true, not-false}
@@ -13,9 +13,9 @@ use Rattle.plan.specs.Judging.{isFine}
 use Rattle.plan.specs.declared.Judged.{Judged}
 use Rattle.sheet.specs.Sheet.{sheetOf}
 use Rattle.sheet.proofs.Accepted.{sheet-valid}
-use Rattle.verdict.specs.declared.Network.{Network}
+use Rattle.network.specs.declared.Network.{Network}
 use Rattle.verdict.specs.declared.Verdict.{Verdict}
-use Rattle.verdict.specs.FromPlan.{networkOf}
+use Rattle.network.specs.FromPlan.{networkOf}
 use Rattle.verdict.specs.Check.{check}
 use Rattle.run.specs.declared.Run.{Run}
 use Rattle.standing.specs.declared.Standing.{Standing}

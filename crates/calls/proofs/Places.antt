@@ -2,7 +2,7 @@
 -- Assumes nothing.
 use Prim.Native.Nat.{_≤_, _<_}
 use native.Mathlib.Omega.{arith}
-use Rattle.verdict.specs.declared.Network.{Network}
+use Rattle.network.specs.declared.Network.{Network}
 use Rattle.run.specs.declared.Run.{Run}
 use Rattle.run.specs.declared.Ordered.{Ordered}
 use Rattle.run.specs.Orders.{next}

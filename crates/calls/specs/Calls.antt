@@ -9,9 +9,9 @@ use lib.ListN.{length, replicate}
 use Rattle.plan.specs.Judging.{isFine, judgedRefusal, judgedPlace}
 use Rattle.plan.specs.declared.Judged.{Judged}
 use Rattle.sheet.specs.Sheet.{sheetOf}
-use Rattle.verdict.specs.declared.Network.{Network}
+use Rattle.network.specs.declared.Network.{Network}
 use Rattle.verdict.specs.declared.Verdict.{Verdict}
-use Rattle.verdict.specs.FromPlan.{networkOf}
+use Rattle.network.specs.FromPlan.{networkOf}
 use Rattle.verdict.specs.Check.{check, verdictNumber}
 use Rattle.run.specs.State.{start, standing}
 use Rattle.run.specs.Bytes.{bytesOf, runOf, soundBytes}

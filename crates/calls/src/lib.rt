@@ -1,10 +1,10 @@
 // What the calls for C do: check, start, next order and reply on lent bytes, each answered in 32 bits. Crate campaign exports them.
+use network::Network;
 use plan::Judged;
 use run::Order;
 use run::Replied;
 use run::Run;
 use standing::Standing;
-use verdict::Network;
 use verdict::Verdict;
 ghost use mathlib.Core.Path.{_≡_};
 ghost use mathlib.Core.Bool.{true};
@@ -138,7 +138,7 @@ fn judge_sheet(sheet: &[u8]) -> Checked
         };
     }
     let plan = read.plan;
-    let network = verdict::network_of(plan);
+    let network = network::network_of(plan);
     let v = verdict::check(network);
     let bits = check_bits(v);
     let passes = is_pass(v);

@@ -6,7 +6,7 @@ use mathlib.Core.List.{List, [], _∷_, map}
 use Prim.Native.Nat.{ℕ, suc}
 use borrow.Author.Tests.{eq-eqb}
 use Rattle.bounded.proofs.Bools.{_&_}
-use Rattle.verdict.specs.declared.Network.{Network}
+use Rattle.network.specs.declared.Network.{Network}
 use Rattle.verdict.proofs.Facts.{Passes}
 use Rattle.run.specs.Sound.{sound}
 use Rattle.run.specs.Bytes.{bytesOf, runOf, soundBytes}

@@ -8,8 +8,8 @@ use native.Mathlib.Omega.{arith}
 use lib.ListN.{length-set}
 use lib.Seq.{getD-set-same, getD-set-other}
 use Rattle.bounded.proofs.Bools.{clash, same?}
-use Rattle.verdict.specs.Network.{inWay, pre, firm, exposed, returnable}
-use Rattle.verdict.specs.declared.Network.{Network}
+use Rattle.network.specs.Network.{inWay, pre, firm, exposed, returnable}
+use Rattle.network.specs.declared.Network.{Network}
 use Rattle.verdict.proofs.Facts.{Passes}
 use Rattle.standing.specs.Standing.{free, requested, held, lost, returning}
 use Rattle.run.specs.State.{code, put}

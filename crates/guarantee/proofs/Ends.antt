@@ -7,8 +7,8 @@ use Prim.Native.Nat.{ℕ, zero, suc, _≤_}
 use native.Mathlib.Omega.{arith}
 use Rattle.bounded.specs.Bounded.{one}
 use Rattle.bounded.proofs.Bools.{which}
-use Rattle.verdict.specs.Network.{inWay}
-use Rattle.verdict.specs.declared.Network.{Network}
+use Rattle.network.specs.Network.{inWay}
+use Rattle.network.specs.declared.Network.{Network}
 use Rattle.verdict.proofs.Facts.{Passes}
 use Rattle.standing.specs.Standing.{requested, held, returning}
 use Rattle.run.specs.State.{code}

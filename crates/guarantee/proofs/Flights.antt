@@ -5,8 +5,8 @@ use mathlib.Core.List.{map}
 use Rattle.bounded.specs.Bounded.{any, all, seek, first, table}
 use Rattle.sets.specs.Sets.{member, gather, inserted, insert, kept, subsetOf, apart, disjointFrom, some, only, without}
 use Rattle.precedence.specs.Precedence.{joinedOf, throughAt, throughOf, closureTo, closureOf}
-use Rattle.verdict.specs.FromPlan.{ofKind, joins, linked, directAt, directOf, networkOf}
-use Rattle.verdict.specs.Network.{wayOf, inWay, before, pre, firm, exposed}
+use Rattle.network.specs.FromPlan.{ofKind, joins, linked, directAt, directOf, networkOf}
+use Rattle.network.specs.Network.{wayOf, inWay, before, pre, firm, exposed}
 use Rattle.verdict.specs.Check.{circular, gap, unclosed, usedBy, unused, sameWay, repeated, stays, staying, leadsTo, settledBy, safe, refuge, laterRefuge, stranding, strands, check, verdictNumber, verdictPlace}
 use Rattle.standing.specs.Standing.{codeIs, coded}
 use Rattle.standing.specs.Ways.{supports, precedesSome, ready, lostIn, heldFirm, live, liveAt, firstLive}

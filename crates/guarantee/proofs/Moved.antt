@@ -10,9 +10,10 @@ use lib.Dec.{eqb}
 use borrow.Author.Tests.{eq-eqb, ne-eqb}
 use Rattle.bounded.specs.Bounded.{one}
 use Rattle.bounded.proofs.Bools.{same?, by-cond, clash}
-use Rattle.verdict.specs.Network.{inWay, firm, exposed, repeatable}
-use Rattle.verdict.specs.declared.Network.{Network}
-use Rattle.verdict.proofs.Facts.{Passes, soft}
+use Rattle.network.specs.Network.{inWay, firm, exposed, repeatable}
+use Rattle.network.specs.declared.Network.{Network}
+use Rattle.verdict.proofs.Facts.{Passes}
+use Rattle.network.proofs.Facts.{soft}
 use Rattle.standing.specs.Standing.{free, requested, held, lost, returning}
 use Rattle.standing.specs.Ways.{firstLive}
 use Rattle.run.specs.State.{code, standing, here, put, turn}

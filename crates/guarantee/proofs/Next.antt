@@ -5,15 +5,15 @@ use mathlib.Core.Logic.{_≢_, _⊎_, inl, inr}
 use mathlib.Core.Bool.{Bool, true, false, not, _&&_}
 use Prim.Native.Nat.{ℕ, _<_}
 use native.Mathlib.Omega.{arith}
-use lib.Bits.{bitAnd, bitOr}
+use lib.Bits.{bitOr}
 use borrow.Author.Tests.{not-true}
 use Rattle.bounded.proofs.Bools.{clash, which, same?, off, and-l, and-r, _&_, not-i}
 use Rattle.bounded.proofs.Tests.{any-i}
 use Rattle.bounded.proofs.Extreme.{extreme}
 use Rattle.sets.specs.Sets.{some}
 use Rattle.sets.proofs.Facts.{subset-e, subset-i, both-i, either-e, either-l, either-r, without-i}
-use Rattle.verdict.specs.Network.{inWay, before, pre, firm, returnable}
-use Rattle.verdict.specs.declared.Network.{Network}
+use Rattle.network.specs.Network.{inWay, before, pre, firm, returnable}
+use Rattle.network.specs.declared.Network.{Network}
 use Rattle.verdict.proofs.Facts.{Passes}
 use Rattle.standing.specs.Standing.{free, requested, held, lost, returning, coded}
 use Rattle.standing.specs.Ways.{precedesSome, ready, lostIn}

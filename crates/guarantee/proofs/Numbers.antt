@@ -8,7 +8,7 @@ use native.Mathlib.Omega.{arith}
 use lib.Dec.{leb}
 use borrow.Author.Tests.{leb-true, le-ltb}
 use Rattle.bounded.proofs.Bools.{which, clash, split?}
-use Rattle.verdict.specs.declared.Network.{Network}
+use Rattle.network.specs.declared.Network.{Network}
 use Rattle.run.specs.declared.Run.{Run}
 use Rattle.run.specs.declared.Replied.{Replied}
 use Rattle.run.specs.Replies.{reply, misfits}

@@ -4,10 +4,10 @@ use mathlib.Core.Path.{_≡_}
 use mathlib.Core.List.{List}
 use Rattle.plan.specs.declared.Plan.{Plan}
 use Rattle.plan.proofs.Valid.{Valid}
-use Rattle.verdict.specs.FromPlan.{networkOf}
+use Rattle.network.specs.FromPlan.{networkOf}
 use Rattle.verdict.specs.Check.{check, verdictNumber}
 use Rattle.verdict.proofs.Pass.{passes}
-use Rattle.verdict.proofs.Plans.{shape}
+use Rattle.network.proofs.Plans.{shape}
 use Rattle.guarantee.specs.Machine.{Asked}
 use Rattle.guarantee.specs.Guarantee.{Guarantee}
 use Rattle.guarantee.proofs.Whole.{whole-campaign}

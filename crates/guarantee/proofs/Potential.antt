@@ -12,9 +12,10 @@ use Rattle.bounded.specs.Bounded.{one, sum}
 use Rattle.bounded.proofs.Bools.{split?, by-cond, and-r}
 use Rattle.bounded.proofs.Sums.{sum-le, sum-one, sum-eq, sum-mono, sum-times, sum-zero, count-sum}
 use Rattle.sets.specs.Sets.{member, sizeOf, some}
-use Rattle.verdict.specs.Network.{wayOf, inWay}
-use Rattle.verdict.specs.declared.Network.{Network}
-use Rattle.verdict.proofs.Facts.{Passes, no-way, some-way}
+use Rattle.network.specs.Network.{wayOf, inWay}
+use Rattle.network.specs.declared.Network.{Network}
+use Rattle.verdict.proofs.Facts.{Passes}
+use Rattle.network.proofs.Facts.{no-way, some-way}
 use Rattle.standing.specs.Standing.{returning}
 use Rattle.standing.specs.Ways.{liveAt}
 use Rattle.run.specs.State.{code, standing, put, turn, start}

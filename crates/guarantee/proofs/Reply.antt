@@ -6,9 +6,10 @@ use mathlib.Core.Bool.{true}
 use Prim.Native.Nat.{ℕ, _≤_, _<_}
 use native.Mathlib.Omega.{arith}
 use Rattle.bounded.proofs.Bools.{clash, same?}
-use Rattle.verdict.specs.Network.{inWay, firm, exposed}
-use Rattle.verdict.specs.declared.Network.{Network}
-use Rattle.verdict.proofs.Facts.{Passes, soft}
+use Rattle.network.specs.Network.{inWay, firm, exposed}
+use Rattle.network.specs.declared.Network.{Network}
+use Rattle.verdict.proofs.Facts.{Passes}
+use Rattle.network.proofs.Facts.{soft}
 use Rattle.standing.specs.Standing.{free, requested, held, lost, returning}
 use Rattle.run.specs.State.{code, put}
 use Rattle.run.specs.Replies.{settle}

@@ -6,7 +6,7 @@ use Prim.Native.Nat.{ℕ}
 use native.Mathlib.Omega.{arith}
 use lib.ListN.{getD-replicate, replicate, List·getD-eq-default}
 use Rattle.bounded.proofs.Bools.{split?}
-use Rattle.verdict.specs.declared.Network.{Network}
+use Rattle.network.specs.declared.Network.{Network}
 use Rattle.verdict.proofs.Facts.{Passes}
 use Rattle.standing.specs.Standing.{free}
 use Rattle.run.specs.State.{code, start}

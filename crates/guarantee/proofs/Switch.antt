@@ -8,9 +8,10 @@ use native.Mathlib.Omega.{arith}
 use borrow.Author.Tests.{not-true}
 use Rattle.bounded.proofs.Bools.{clash, same?, split?, off, which, and-l, and-r, _&_, not-i, by-cond}
 use Rattle.sets.specs.Sets.{some}
-use Rattle.verdict.specs.Network.{inWay, pre, firm}
-use Rattle.verdict.specs.declared.Network.{Network}
-use Rattle.verdict.proofs.Facts.{Passes, Stays, no-way}
+use Rattle.network.specs.Network.{inWay, pre, firm}
+use Rattle.network.specs.declared.Network.{Network}
+use Rattle.verdict.proofs.Facts.{Passes, Stays}
+use Rattle.network.proofs.Facts.{no-way}
 use Rattle.standing.specs.Standing.{requested, held, lost, returning}
 use Rattle.standing.specs.Ways.{lostIn, liveAt, firstLive}
 use Rattle.run.specs.State.{code, standing, here, turn}

@@ -10,9 +10,10 @@ use lib.Dec.{eqb}
 use borrow.Author.Tests.{eqb-true}
 use Rattle.bounded.specs.Bounded.{one}
 use Rattle.bounded.proofs.Bools.{or-cases}
-use Rattle.verdict.specs.Network.{inWay, firm}
-use Rattle.verdict.specs.declared.Network.{Network}
-use Rattle.verdict.proofs.Facts.{Passes, no-way}
+use Rattle.network.specs.Network.{inWay, firm}
+use Rattle.network.specs.declared.Network.{Network}
+use Rattle.verdict.proofs.Facts.{Passes}
+use Rattle.network.proofs.Facts.{no-way}
 use Rattle.run.specs.State.{code, start}
 use Rattle.run.specs.Orders.{next}
 use Rattle.run.specs.declared.Run.{Run}

@@ -3,7 +3,7 @@
 use mathlib.Core.Bool.{cond}
 use mathlib.Core.List.{List, [], _∷_}
 use Prim.Native.Nat.{ℕ}
-use Rattle.verdict.specs.declared.Network.{Network}
+use Rattle.network.specs.declared.Network.{Network}
 use Rattle.run.specs.State.{start}
 use Rattle.run.specs.Bytes.{bytesOf, runOf, soundBytes}
 use Rattle.guarantee.specs.Answers.{unsound}

@@ -6,8 +6,8 @@ use Prim.Native.Nat.{ℕ, suc, pred, _+_}
 use lib.Dec.{eqb}
 use Rattle.bounded.specs.Bounded.{one, sum}
 use Rattle.sets.specs.Sets.{sizeOf}
-use Rattle.verdict.specs.Network.{wayOf, repeatable}
-use Rattle.verdict.specs.declared.Network.{Network}
+use Rattle.network.specs.Network.{wayOf, repeatable}
+use Rattle.network.specs.declared.Network.{Network}
 use Rattle.run.specs.Replies.{Y, N, G, K}
 use Rattle.guarantee.specs.Answers.{kindOf, placeOf}
 use Rattle.guarantee.specs.Machine.{Asked, nextOrder, replied}

@@ -5,8 +5,8 @@ use mathlib.Core.Path.{_≡_}
 use mathlib.Core.Bool.{true, false, _||_}
 use mathlib.Core.List.{List}
 use Prim.Native.Nat.{ℕ, suc, _+_, _*_, _≤_}
-use Rattle.verdict.specs.Network.{inWay, firm}
-use Rattle.verdict.specs.declared.Network.{Network}
+use Rattle.network.specs.Network.{inWay, firm}
+use Rattle.network.specs.declared.Network.{Network}
 use Rattle.guarantee.specs.Answers.{kindOf, placeOf}
 use Rattle.guarantee.specs.Machine.{Asked}
 use Rattle.guarantee.specs.Counted.{sends, ends, confirmed, returned, ordered, answered, event, again, tally, waySizes}

@@ -5,7 +5,7 @@ use Prim.Native.Nat.{ℕ, pred}
 use lib.ListN.{length}
 use Rattle.sets.specs.Sets.{insert}
 use Rattle.plan.specs.declared.Plan.{Plan}
-use Rattle.verdict.specs.FromPlan.{networkOf}
+use Rattle.network.specs.FromPlan.{networkOf}
 use Rattle.verdict.specs.Check.{check}
 use Rattle.run.specs.State.{start}
 use Rattle.run.specs.Replies.{Y, N, G, K}

@@ -12,8 +12,8 @@ use Rattle.bounded.proofs.Bools.{by-cond, and-l, and-r}
 use Rattle.bounded.proofs.First.{Least, first-least, first-none}
 use Rattle.sets.specs.Sets.{member, without, some}
 use Rattle.sets.proofs.Facts.{both-e, without-e}
-use Rattle.verdict.specs.Network.{inWay, exposed}
-use Rattle.verdict.specs.declared.Network.{Network}
+use Rattle.network.specs.Network.{inWay, exposed}
+use Rattle.network.specs.declared.Network.{Network}
 use Rattle.standing.specs.Standing.{free, requested, held, lost, returning}
 use Rattle.standing.specs.Ways.{precedesSome, ready, lostIn, liveAt, firstLive}
 use Rattle.standing.specs.declared.Standing.{Standing}

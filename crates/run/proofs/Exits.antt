@@ -11,7 +11,7 @@ use Rattle.bounded.specs.Bounded.{first}
 use Rattle.bounded.proofs.Bools.{same?}
 use Rattle.sets.specs.Sets.{some}
 use Rattle.sets.proofs.Facts.{some-on, some-off}
-use Rattle.verdict.specs.declared.Network.{Network}
+use Rattle.network.specs.declared.Network.{Network}
 use Rattle.standing.specs.Standing.{free, requested, held, returning, codeIs}
 use Rattle.standing.specs.Ways.{lostIn, firstLive}
 use Rattle.standing.specs.declared.Standing.{Standing}

@@ -10,8 +10,8 @@ use borrow.Author.Tests.{not-true}
 use Rattle.bounded.proofs.Bools.{clash, off, split?, and-l, and-r, _&_, not-i}
 use Rattle.sets.specs.Sets.{member, some}
 use Rattle.sets.proofs.Facts.{subset-e, subset-i, meet-i, meet-e, both-i, both-e}
-use Rattle.verdict.specs.Network.{wayOf, inWay, pre, firm, exposed, returnable}
-use Rattle.verdict.specs.declared.Network.{Network}
+use Rattle.network.specs.Network.{wayOf, inWay, pre, firm, exposed, returnable}
+use Rattle.network.specs.declared.Network.{Network}
 use Rattle.standing.specs.Standing.{free, requested, held, lost, returning, coded}
 use Rattle.standing.specs.Ways.{lostIn, heldFirm, live, liveAt}
 use Rattle.standing.proofs.Facts.{is-i as list-i, is-e as list-e, coded-i as in-i, coded-e as in-e, some-coded as some-in, none-coded as none-in}

@@ -14,11 +14,11 @@ use Rattle.bounded.proofs.Tests.{all-i, all-e}
 use Rattle.sets.specs.Sets.{member, without, subsetOf, some}
 use Rattle.sets.proofs.Facts.{subset-e, subset-i, some-i, some-member, both-i, both-e, either-e, either-l, either-r, without-i, without-e}
 use Rattle.sets.proofs.Gather.{gather-lt}
-use Rattle.verdict.specs.Network.{wayOf, inWay, pre, firm, exposed, returnable}
-use Rattle.verdict.specs.declared.Network.{Network}
-use Rattle.verdict.proofs.Facts.{Shape}
+use Rattle.network.specs.Network.{inWay, pre, firm, exposed, returnable}
+use Rattle.network.specs.declared.Network.{Network}
+use Rattle.network.proofs.Facts.{Shape}
 use Rattle.standing.specs.Standing.{free, requested, held, lost, returning}
-use Rattle.standing.specs.Ways.{preceding, lostIn, heldFirm, liveAt}
+use Rattle.standing.specs.Ways.{preceding, lostIn, heldFirm}
 use Rattle.standing.proofs.Facts.{preceding-i, preceding-e}
 use Rattle.run.specs.State.{code, is, standing, here}
 use Rattle.run.specs.Sound.{codeKnown, codesKnown, wayKnown, zeroPast, restZero, allFounded, lostExposed, requestedInside, returningOutside, quiet, waysBefore, passedOver, earlierDead, firmInside, lostPending, sound}

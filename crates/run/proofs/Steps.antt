@@ -10,7 +10,7 @@ use Rattle.bounded.proofs.First.{first-ext}
 use Rattle.sets.specs.Sets.{member, without}
 use Rattle.sets.proofs.Gather.{member-gather}
 use Rattle.sets.proofs.Operations.{member-without}
-use Rattle.verdict.specs.declared.Network.{Network}
+use Rattle.network.specs.declared.Network.{Network}
 use Rattle.standing.specs.Ways.{precedesSome, preceding}
 use Rattle.standing.specs.declared.Standing.{Standing}
 use Rattle.standing.specs.Standing.{moved}

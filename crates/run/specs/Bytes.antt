@@ -5,7 +5,7 @@ use mathlib.Core.List.{List, _∷_}
 use Prim.Native.Nat.{ℕ}
 use lib.Dec.{eqb}
 use lib.ListN.{length, getD, drop}
-use Rattle.verdict.specs.declared.Network.{Network}
+use Rattle.network.specs.declared.Network.{Network}
 use Rattle.run.specs.Sound.{sound}
 use Rattle.run.specs.declared.Run.{Run}
 

@@ -6,7 +6,7 @@ use lib.Dec.{eqb, ltb}
 use lib.Bits.{bitAnd, bitOr}
 use Rattle.bounded.specs.Bounded.{first}
 use Rattle.sets.specs.Sets.{member, without, some}
-use Rattle.verdict.specs.declared.Network.{Network}
+use Rattle.network.specs.declared.Network.{Network}
 use Rattle.standing.specs.Standing.{requested, returning}
 use Rattle.standing.specs.Ways.{precedesSome, ready, lostIn}
 use Rattle.standing.specs.declared.Standing.{Standing}

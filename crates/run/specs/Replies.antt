@@ -4,8 +4,8 @@ use mathlib.Core.Bool.{Bool, true, false, not, _&&_, cond}
 use Prim.Native.Nat.{ℕ}
 use lib.Dec.{eqb, ltb}
 use Rattle.sets.specs.Sets.{some}
-use Rattle.verdict.specs.Network.{exposed}
-use Rattle.verdict.specs.declared.Network.{Network}
+use Rattle.network.specs.Network.{exposed}
+use Rattle.network.specs.declared.Network.{Network}
 use Rattle.standing.specs.Standing.{free, requested, held, lost, returning}
 use Rattle.standing.specs.Ways.{lostIn, firstLive}
 use Rattle.standing.specs.declared.Standing.{Standing}

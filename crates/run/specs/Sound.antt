@@ -6,7 +6,7 @@ use lib.Dec.{leb}
 use lib.Bits.{bitAnd, bitOr}
 use Rattle.bounded.specs.Bounded.{imp, all}
 use Rattle.sets.specs.Sets.{without, subsetOf, some}
-use Rattle.verdict.specs.declared.Network.{Network}
+use Rattle.network.specs.declared.Network.{Network}
 use Rattle.standing.specs.Standing.{free, returning}
 use Rattle.standing.specs.Ways.{preceding, lostIn, heldFirm, liveAt}
 use Rattle.standing.specs.declared.Standing.{Standing}

@@ -3,8 +3,8 @@
 use mathlib.Core.Bool.{Bool}
 use Prim.Native.Nat.{ℕ}
 use lib.ListN.{getD, set, replicate}
-use Rattle.verdict.specs.Network.{wayOf}
-use Rattle.verdict.specs.declared.Network.{Network}
+use Rattle.network.specs.Network.{wayOf}
+use Rattle.network.specs.declared.Network.{Network}
 use Rattle.standing.specs.Standing.{free, codeIs, standingOf}
 use Rattle.standing.specs.declared.Standing.{Standing}
 use Rattle.run.specs.declared.Run.{Run}

@@ -1,7 +1,7 @@
 // The run of a plan: its state, the next order, and what a desk's reply does. Both steps are handed how the bookings stand, so that
 // a call looks at the codes once.
+use network::Network;
 use standing::Standing;
-use verdict::Network;
 ghost use mathlib.Core.Path.{_≡_};
 ghost use mathlib.Core.Bool.{_&&_};
 ghost use Prim.Native.Nat.{_≤_, _<_};

@@ -6,16 +6,16 @@ use mathlib.Core.Bool.{Bool, true, false, not, _&&_, _||_}
 use mathlib.Core.List.{List}
 use Prim.Native.Nat.{ℕ, zero, suc, _+_, _-_, _≤_, _<_}
 use native.Mathlib.Omega.{arith}
-use borrow.Author.Tests.{le-leb, lt-leb, eq-eqb, ne-eqb, eqb-true, not-true}
+use borrow.Author.Tests.{le-leb, lt-leb, eq-eqb, eqb-true, not-true}
 use lib.Dec.{eqb, leb}
 use lib.ListN.{getD}
 use lib.Bits.{bitAnd, bitOr, or-add-and, and-le-l, and-le-r}
 use Rattle.bounded.specs.Bounded.{imp, all}
-use Rattle.bounded.proofs.Bools.{_&_, and-l, and-r, and-no-l, and-no-r, off, clash, imp-e, imp-i, not-i, or-l, or-r, same-test, split?, went, and-true}
+use Rattle.bounded.proofs.Bools.{_&_, and-l, and-r, and-no-l, and-no-r, off, clash, imp-e, imp-i, not-i, same-test, split?, went, and-true}
 use Rattle.bounded.proofs.Tests.{all-i, all-e, all-suc}
 use Rattle.sets.specs.Sets.{without, subsetOf, some}
 use Rattle.sets.proofs.Facts.{some-on, some-off}
-use Rattle.verdict.specs.declared.Network.{Network}
+use Rattle.network.specs.declared.Network.{Network}
 use Rattle.standing.specs.Standing.{free, returning, codeIs}
 use Rattle.standing.specs.Ways.{preceding, lostIn, liveAt}
 use Rattle.standing.specs.declared.Standing.{Standing}

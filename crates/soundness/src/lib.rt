@@ -1,7 +1,7 @@
 // Whether a state is sound: a test for each sentence of the rule, on how the bookings stand. The sentences are defined in crate run.
+use network::Network;
 use run::Run;
 use standing::Standing;
-use verdict::Network;
 ghost use mathlib.Core.Path.{_≡_};
 ghost use mathlib.Core.Bool.{_&&_};
 ghost use Prim.Native.Nat.{_≤_};

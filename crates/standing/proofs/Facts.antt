@@ -11,8 +11,8 @@ use Rattle.bounded.proofs.Bools.{clash, and-l, and-r, _&_}
 use Rattle.bounded.proofs.Tests.{any-i, any-e}
 use Rattle.sets.specs.Sets.{member, some}
 use Rattle.sets.proofs.Facts.{gather-e, gather-i, some-e, some-n}
-use Rattle.verdict.specs.Network.{pre}
-use Rattle.verdict.specs.declared.Network.{Network}
+use Rattle.network.specs.Network.{pre}
+use Rattle.network.specs.declared.Network.{Network}
 use Rattle.standing.specs.Standing.{codeIs, coded}
 use Rattle.standing.specs.Ways.{supports, precedesSome, preceding}
 

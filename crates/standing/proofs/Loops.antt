@@ -1,6 +1,6 @@
 -- The loops over a standing: what precedes a set, and the first live way.
 -- Assumes nothing.
-use mathlib.Core.Path.{_≡_, sym, ap, ap₂, _∙_}
+use mathlib.Core.Path.{_≡_, sym, ap, _∙_}
 use mathlib.Core.Bool.{Bool, true, false, _&&_, _||_}
 use Prim.Native.Nat.{ℕ, _+_, _^_, _≤_, _<_}
 use native.Mathlib.Nat.{le-refl}
@@ -12,11 +12,11 @@ use Rattle.bounded.specs.Bounded.{any}
 use Rattle.bounded.proofs.Bools.{or-false}
 use Rattle.bounded.proofs.Tests.{any-suc}
 use Rattle.bounded.proofs.Loops.{So-far, first-at, first-over}
-use Rattle.sets.specs.Sets.{member, gather}
+use Rattle.sets.specs.Sets.{member}
 use Rattle.sets.proofs.Members.{member-or, member-zero}
 use Rattle.sets.proofs.Gather.{gather-is}
-use Rattle.verdict.specs.Network.{before, pre}
-use Rattle.verdict.specs.declared.Network.{Network}
+use Rattle.network.specs.Network.{before, pre}
+use Rattle.network.specs.declared.Network.{Network}
 use Rattle.standing.specs.Ways.{supports, precedesSome, preceding, liveAt, firstLive}
 use Rattle.standing.specs.declared.Standing.{Standing}
 

@@ -6,8 +6,8 @@ use lib.Dec.{ltb}
 use lib.Bits.{bitAnd}
 use Rattle.bounded.specs.Bounded.{any, first}
 use Rattle.sets.specs.Sets.{member, gather, subsetOf, disjointFrom}
-use Rattle.verdict.specs.Network.{wayOf, before, pre}
-use Rattle.verdict.specs.declared.Network.{Network}
+use Rattle.network.specs.Network.{wayOf, before, pre}
+use Rattle.network.specs.declared.Network.{Network}
 use Rattle.standing.specs.declared.Standing.{Standing}
 
 -- ---- predecessors

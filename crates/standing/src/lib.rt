@@ -1,11 +1,11 @@
 // How the bookings of a plan stand: one look at the codes of a state gives the set of each code, and the rules ask these sets.
-use verdict::Network;
+use network::Network;
 ghost use mathlib.Core.Path.{_≡_};
 ghost use Prim.Native.Nat.{suc, _≤_, _<_};
 ghost use lib.Dec.{leb};
 ghost use Rattle.bounded.specs.Bounded.{any};
 ghost use Rattle.sets.specs.Sets.{alone};
-ghost use Rattle.verdict.specs.Network.{wayOf};
+ghost use Rattle.network.specs.Network.{wayOf};
 ghost use Rattle.standing.specs.Standing.{placed, moved, standingOf};
 ghost use Rattle.standing.specs.Ways.{preceding, lostIn, live, firstLive};
 

@@ -18,10 +18,10 @@ use Rattle.bounded.proofs.Loops.{So-far, first-at, first-over}
 use Rattle.sets.specs.Sets.{member, some}
 use Rattle.sets.proofs.Members.{member-and, member-zero}
 use Rattle.sets.proofs.Facts.{some-e, some-on, some-off}
-use Rattle.verdict.specs.declared.Network.{Network}
+use Rattle.network.specs.declared.Network.{Network}
 use Rattle.verdict.specs.declared.Verdict.{Verdict}
 use Rattle.verdict.specs.declared.Verdict.the-variants.{Pass, Unclosed, Unused, Repeated, Stranding}
-use Rattle.verdict.specs.Network.{wayOf, inWay, firm, exposed}
+use Rattle.network.specs.Network.{wayOf, inWay, firm, exposed}
 use Rattle.verdict.specs.Check.{unclosed, unused, repeated, stays, staying, laterRefuge, stranding, strands, firstStranding}
 
 -- ---- 8: one way and one booking

@@ -1,8 +1,6 @@
 -- The laws of crate `verdict`.
 pub mod Facts
 pub mod Pass
-pub mod Plans
-pub mod Links
 pub mod Parts
 pub mod Exits
 pub mod Places

@@ -18,8 +18,8 @@ use Rattle.sets.specs.Sets.{member, gather, kept, subsetOf, always, allBelow}
 use Rattle.sets.proofs.Members.{member-and, member-or, member-power}
 use Rattle.sets.proofs.Gather.{gather-is, gather-lt, gather-put, gather-skip, member-gather}
 use Rattle.sets.proofs.Whole.{gather-ext, gather-and}
-use Rattle.verdict.specs.declared.Network.{Network}
-use Rattle.verdict.specs.Network.{wayOf, inWay, before, pre, firm, exposed}
+use Rattle.network.specs.declared.Network.{Network}
+use Rattle.network.specs.Network.{wayOf, inWay, before, pre, firm, exposed}
 use Rattle.verdict.specs.Check.{circular, gap, unclosed, usedBy, unused, sameWay, repeated, stays, staying, leadsTo, settledBy, safe, refuge, laterRefuge}
 use Rattle.verdict.specs.Parts.{mayStay, stayAt, PutUnless, Upto}
 

@@ -13,11 +13,12 @@ use Rattle.bounded.proofs.Tests.{any-e, any-n, all-e}
 use Rattle.bounded.proofs.First.{first-none}
 use Rattle.sets.specs.Sets.{member, subsetOf}
 use Rattle.sets.proofs.Facts.{gather-i, subset-e, some-i}
-use Rattle.verdict.specs.Network.{wayOf, inWay, before, pre, exposed}
+use Rattle.network.specs.Network.{wayOf, inWay, before, pre, exposed}
 use Rattle.verdict.specs.Check.{circular, gap, unclosed, unused, repeated, stays, staying, leadsTo, settledBy, safe, refuge, laterRefuge, stranding, strands, check, verdictNumber}
-use Rattle.verdict.specs.declared.Network.{Network}
+use Rattle.network.specs.declared.Network.{Network}
 use Rattle.verdict.specs.declared.Verdict.{Verdict}
-use Rattle.verdict.proofs.Facts.{Stays, Refuge, Shape, Passes, some-way}
+use Rattle.verdict.proofs.Facts.{Stays, Refuge, Passes}
+use Rattle.network.proofs.Facts.{Shape, some-way}
 
 -- refusals 4 to 8 are absent
 pub record Clean (g : Network) : Type 0 where

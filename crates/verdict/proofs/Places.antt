@@ -9,7 +9,7 @@ use lib.Dec.{ltb}
 use Rattle.bounded.specs.Bounded.{first}
 use Rattle.bounded.proofs.Bools.{by-cond}
 use Rattle.bounded.proofs.First.{first-least}
-use Rattle.verdict.specs.declared.Network.{Network}
+use Rattle.network.specs.declared.Network.{Network}
 use Rattle.verdict.specs.declared.Verdict.{Verdict}
 use Rattle.verdict.specs.declared.Verdict.the-variants.{Pass, Circular, Unclosed, Unused, Repeated, Stranding}
 use Rattle.verdict.specs.Check.{circular, unclosed, unused, repeated, stranding, strands, check, verdictPlace}

@@ -5,8 +5,8 @@ use Prim.Native.Nat.{ℕ, suc, _+_, _*_}
 use lib.Dec.{eqb, ltb}
 use Rattle.bounded.specs.Bounded.{imp, any, all, first}
 use Rattle.sets.specs.Sets.{gather, subsetOf, some}
-use Rattle.verdict.specs.Network.{wayOf, inWay, before, pre, firm, exposed}
-use Rattle.verdict.specs.declared.Network.{Network}
+use Rattle.network.specs.Network.{wayOf, inWay, before, pre, firm, exposed}
+use Rattle.network.specs.declared.Network.{Network}
 use Rattle.verdict.specs.declared.Verdict.{Verdict}
 use Rattle.verdict.specs.declared.Verdict.the-variants.{Pass, Circular, Unclosed, Unused, Repeated, Stranding}
 

@@ -8,8 +8,8 @@ use lib.Dec.{eqb}
 use lib.Bits.{bitOr}
 use lib.ListN.{length, getD}
 use Rattle.sets.specs.Sets.{alone, member, gather}
-use Rattle.verdict.specs.Network.{before, pre, firm}
-use Rattle.verdict.specs.declared.Network.{Network}
+use Rattle.network.specs.Network.{before, pre, firm}
+use Rattle.network.specs.declared.Network.{Network}
 use Rattle.verdict.specs.declared.Point.{Point}
 
 -- s is firm, and x neither equals nor precedes it: of these, S has those of the way

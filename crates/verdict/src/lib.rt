@@ -1,27 +1,14 @@
-// A plan as the rules look at it, its links closed to chains; and the check of it: refusals 4 to 8.
-use plan::Plan;
+// The check of a network: refusals 4 to 8.
+use network::Network;
 ghost use mathlib.Core.Path.{_≡_};
-ghost use mathlib.Core.Bool.{not, _&&_, _||_, cond};
+ghost use mathlib.Core.Bool.{not, _&&_, cond};
 ghost use Prim.Native.Nat.{suc, _≤_, _<_};
-ghost use lib.Dec.{eqb};
 ghost use lib.Bits.{bitAnd, bitOr};
 ghost use lib.ListN.{length, replicate};
-ghost use Rattle.bounded.specs.Bounded.{any, first, table};
-ghost use Rattle.sets.specs.Sets.{alone, member, gather, subsetOf};
-ghost use Rattle.verdict.specs.FromPlan.{firmAt, exposedAt, directOf, networkOf, Ends};
+ghost use Rattle.bounded.specs.Bounded.{any, first};
+ghost use Rattle.sets.specs.Sets.{member, gather, subsetOf};
 ghost use Rattle.verdict.specs.Check.{circular, unclosed, unused, repeated, staying, settledBy, laterRefuge, stranding, firstStranding, check};
 ghost use Rattle.verdict.specs.Parts.{PutUnless, Upto, Stay, PointOf};
-
-// A plan as the rules see it. Booking number b is index b - 1 and bit b - 1 of every set; way[k] is way number k + 1.
-// before[v] has all bookings that precede v, by one link or by a chain of links.
-pub struct Network {
-    pub n: usize,
-    pub a: usize,
-    pub way: [u64; 16],
-    pub before: [u64; 64],
-    pub firm: u64,
-    pub exposed: u64,
-}
 
 // What the check says: the first fault and where it is, bookings by index and ways by number.
 pub enum Verdict {
@@ -33,12 +20,6 @@ pub enum Verdict {
     Stranding(usize, usize),
 }
 
-// The bookings that stay once they are held, and those that can be refused for good.
-struct Kinds {
-    firm: u64,
-    exposed: u64,
-}
-
 // Booking x of way k + 1, to be tried for stranding: before has what precedes it, stay the firm bookings that may be held still when it
 // is lost.
 struct Point {
@@ -46,71 +27,6 @@ struct Point {
     x: usize,
     before: u64,
     stay: u64,
-}
-
-// Whether k is one of two kinds.
-fn is_either(k: u8, x: u8, y: u8) -> bool
-    ensures { λ r. ⌜ r ≡ (eqb k x || eqb k y) ⌝ }
-{
-    if k == x {
-        return true;
-    }
-    k == y
-}
-
-// The bookings below n by their kinds: firm are P and R, exposed C and P.
-fn kinds_of(bits: &[u64; 64], kind: &[u8; 64], n: usize) -> Kinds
-    requires { ⌜ (now bits ≡ table alone 64) × (n ≤ 64) ⌝ }
-    ensures { λ r. ⌜ (r .firm ≡ gather (firmAt (now (kind .entry))) n) × (r .exposed ≡ gather (exposedAt (now (kind .entry))) n) ⌝ }
-{
-    let mut firm: u64 = 0;
-    let mut exposed: u64 = 0;
-    for b in 0..n {
-        if is_either(kind[b], b'P', b'R') {
-            firm = firm | bits[b];
-        }
-        if is_either(kind[b], b'C', b'P') {
-            exposed = exposed | bits[b];
-        }
-    }
-    Kinds { firm, exposed }
-}
-
-// The direct predecessors of each booking, by the first m links.
-fn direct(bits: &[u64; 64], from: [u8; 512], to: [u8; 512], m: usize) -> [u64; 64]
-    requires { ⌜ (now bits ≡ table alone 64) × Ends from to m ⌝ }
-    ensures { λ r. ⌜ r ≡ directOf from to m ⌝ }
-{
-    let mut d = [0u64; 64];
-    for i in 0..m {
-        let u = from[i] as usize - 1;
-        let v = to[i] as usize - 1;
-        d[v] = d[v] | bits[u];
-    }
-    d
-}
-
-// What the rules look at in a plan.
-pub fn network_of(p: Plan) -> Network
-    requires { ⌜ (p .n ≤ 64) × Ends (p .from) (p .to) (p .m) ⌝ }
-    ensures { λ r. ⌜ r ≡ networkOf p ⌝ }
-{
-    let kind = p.kind;
-    let from = p.from;
-    let to = p.to;
-    let way = p.way;
-    let bits = sets::bits();
-    let links = direct(&bits, from, to, p.m);
-    let before = precedence::closure(links);
-    let kinds = kinds_of(&bits, &kind, p.n);
-    Network {
-        n: p.n,
-        a: p.a,
-        way,
-        before,
-        firm: kinds.firm,
-        exposed: kinds.exposed,
-    }
 }
 
 // The functions below take the network, and beside it by reference those of its arrays that they read: to read an element of a field

@@ -11,8 +11,8 @@ use Rattle.plan.specs.Judging.{isFine}
 use Rattle.lines.specs.Form.{waysPlace}
 use Rattle.sheet.specs.Sheet.{sheetOf}
 use Rattle.sheet.proofs.Accepted.{sheet-valid, sheet-counts}
-use Rattle.verdict.specs.FromPlan.{networkOf}
-use Rattle.verdict.specs.Network.{wayOf}
+use Rattle.network.specs.FromPlan.{networkOf}
+use Rattle.network.specs.Network.{wayOf}
 use Rattle.ways.specs.Ways.{countsListed}
 use Rattle.ways.specs.WayText.{sizeAt}
 use Rattle.verdict.specs.Check.{check, verdictNumber}

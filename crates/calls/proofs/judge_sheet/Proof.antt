@@ -2,7 +2,7 @@
 -- Assumes nothing.
 use Rattle.sheet.specs.declared.Sheet.{Sheet}
 use Rattle.sheet.specs.Sheet.{sheetOf}
-use Rattle.verdict.specs.FromPlan.{networkOf}
+use Rattle.network.specs.FromPlan.{networkOf}
 use Rattle.calls.specs.Calls.{networkIn}
 use mathlib.Core.Bool.{true}
 use mathlib.Core.Path.{_≡_, ap, _∙_}
@@ -10,7 +10,7 @@ use Rattle.bounded.proofs.Bools.{went}
 use Rattle.plan.specs.Judging.{isFine}
 use Rattle.sheet.proofs.Places.{sheet-small}
 use Rattle.sheet.proofs.Accepted.{sheet-valid}
-use Rattle.verdict.proofs.Plans.{valid-fits}
+use Rattle.network.proofs.Plans.{valid-fits}
 use Rattle.verdict.proofs.Places.{verdict-small}
 use Rattle.calls.proofs.Exits.{fine-bounds, checked-refused, checked-read}
 use borrow.Author.Needs.{needs}

@@ -1,6 +1,5 @@
 -- `calls::take_up` meets its contract.
 -- Assumes nothing.
-use mathlib.Core.Path.{_≡_}
 use borrow.Author.Needs.{needs}
 use Rattle.calls.proofs.Exits.{away, bounded, short, unsound-away, taken}
 use Rattle.calls.proofs.take_up.Statement.{statement}

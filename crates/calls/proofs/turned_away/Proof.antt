@@ -1,6 +1,5 @@
 -- `calls::turned_away` meets its contract.
 -- Assumes nothing.
-use mathlib.Core.Path.{refl}
 use borrow.Author.Needs.{needs}
 use Rattle.calls.specs.Calls.{turnedAway}
 use Rattle.calls.proofs.turned_away.Statement.{statement}

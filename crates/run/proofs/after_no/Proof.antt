@@ -3,7 +3,7 @@
 use mathlib.Core.Path.{sym, _∙_}
 use borrow.Author.Needs.{needs}
 use Rattle.bounded.proofs.Bools.{cond-on, cond-off}
-use Rattle.verdict.specs.Network.{exposed}
+use Rattle.network.specs.Network.{exposed}
 use Rattle.run.specs.Replies.{afterNo}
 use Rattle.run.proofs.after_no.Statement.{statement}
 use Rattle.run.proofs.after_no.Tie as tie

@@ -2,9 +2,8 @@
 -- Assumes nothing.
 use Prim.Native.Nat.{_≤_, _-_}
 use native.Mathlib.Omega.{arith}
-use borrow.Author.Needs.{needs}
 use Rattle.bounded.proofs.Loops.{So-far, so-far-none, so-far-call, first-call, first-over}
-use Rattle.verdict.specs.Network.{before}
+use Rattle.network.specs.Network.{before}
 use Rattle.standing.specs.Ways.{ready}
 use Rattle.run.specs.Orders.{toRequest}
 use Rattle.run.proofs.to_request.Statement.{statement}

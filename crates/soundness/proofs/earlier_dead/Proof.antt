@@ -5,7 +5,7 @@ use Prim.Native.Nat.{_≤_, _-_}
 use native.Mathlib.Omega.{arith}
 use borrow.Author.Needs.{needs}
 use Rattle.bounded.proofs.Loops.{So-far, so-far-none, so-far-call}
-use Rattle.verdict.specs.Network.{wayOf}
+use Rattle.network.specs.Network.{wayOf}
 use Rattle.standing.specs.Ways.{liveAt}
 use Rattle.soundness.proofs.Tests.{before-few, earlier-live, earlier-none}
 use Rattle.soundness.proofs.earlier_dead.Statement.{statement}

@@ -5,9 +5,7 @@ use mathlib.Core.Bool.{Bool}
 use Prim.Native.Nat.{ℕ, _≤_}
 use native.Mathlib.Omega.{arith}
 use borrow.Author.Needs.{needs}
-use lib.Bits.{bitAnd}
 use Rattle.bounded.proofs.Bools.{went}
-use Rattle.sets.specs.Sets.{subsetOf}
 use Rattle.standing.specs.Ways.{heldFirm}
 use Rattle.standing.specs.declared.Standing.{Standing}
 use Rattle.run.specs.State.{standing, here}

@@ -1,8 +1,8 @@
 -- `standing::way_of` meets its contract.
 -- Assumes nothing.
 use borrow.Author.Needs.{needs}
-use Rattle.verdict.specs.Network.{wayOf}
-use Rattle.verdict.proofs.Facts.{way-entry}
+use Rattle.network.specs.Network.{wayOf}
+use Rattle.network.proofs.Facts.{way-entry}
 use Rattle.standing.proofs.way_of.Statement.{statement}
 use Rattle.standing.proofs.way_of.Tie as tie
 

@@ -13,7 +13,7 @@ use Rattle.bounded.proofs.Lists.{table-put}
 use Rattle.sets.specs.Sets.{gather}
 use Rattle.sets.proofs.Gather.{gather-zero}
 use Rattle.sets.proofs.Table.{alone-in}
-use Rattle.verdict.specs.Network as Net
+use Rattle.network.specs.Network as Net
 use Rattle.verdict.specs.Parts.{mayStay, stayAt}
 use Rattle.verdict.proofs.Parts.{stay-turn, stay-same}
 use Rattle.verdict.proofs.find_spans.Statement.{statement}

@@ -8,7 +8,7 @@ use native.Mathlib.Omega.{arith}
 use borrow.Author.Needs.{needs}
 use lib.ListN.{getD}
 use Rattle.bounded.proofs.Loops.{So-far, so-far-none, so-far-more, so-far-call, any-over}
-use Rattle.verdict.specs.Network.{before}
+use Rattle.network.specs.Network.{before}
 use Rattle.verdict.specs.Check.{stranding, strands}
 use Rattle.verdict.proofs.Exits.{nothing-firm, none-strand, one-strands}
 use Rattle.verdict.proofs.first_stranding.Statement.{statement}

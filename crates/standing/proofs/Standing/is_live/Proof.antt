@@ -4,8 +4,7 @@ use mathlib.Core.Path.{sym, ap, _∙_}
 use mathlib.Core.Bool.{not}
 use borrow.Author.Needs.{needs}
 use Rattle.bounded.proofs.Bools.{and-no-l, and-go}
-use Rattle.sets.specs.Sets.{subsetOf}
-use Rattle.standing.specs.Ways.{lostIn, heldFirm, live}
+use Rattle.standing.specs.Ways.{heldFirm, live}
 use Rattle.standing.proofs.Standing.is_live.Statement.{statement}
 use Rattle.standing.proofs.Standing.is_live.Tie as tie
 

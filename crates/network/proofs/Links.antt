@@ -18,8 +18,8 @@ use Rattle.sets.proofs.Gather.{gather-lt, member-gather}
 use Rattle.sets.proofs.Whole.{gather-ext}
 use Rattle.precedence.specs.Precedence.{closureOf}
 use Rattle.plan.specs.declared.Plan.{Plan}
-use Rattle.verdict.specs.declared.Network.{Network}
-use Rattle.verdict.specs.FromPlan.{joins, linked, directAt, directOf, firmAt, exposedAt, networkOf}
+use Rattle.network.specs.declared.Network.{Network}
+use Rattle.network.specs.FromPlan.{joins, linked, directAt, directOf, firmAt, exposedAt, networkOf}
 
 module _ (us vs : List ℕ) where
   pub direct-none : (v : ℕ) → v < 64 → getD (replicate 64 0) v 0 ≡ directAt us vs 0 v

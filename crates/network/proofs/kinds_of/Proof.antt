@@ -1,4 +1,4 @@
--- `verdict::kinds_of` meets its contract.
+-- `network::kinds_of` meets its contract.
 -- Assumes nothing.
 use mathlib.Core.Path.{_≡_, refl, sym, ap₂, _∙_}
 use mathlib.Core.Logic.{⊎-elim}
@@ -8,9 +8,9 @@ use lib.Bits.{bitOr}
 use Rattle.sets.specs.Sets.{gather}
 use Rattle.sets.proofs.Gather.{gather-zero, gather-skip}
 use Rattle.sets.proofs.Operations.{gather-alone}
-use Rattle.verdict.specs.FromPlan.{ofKind, firmAt, exposedAt}
-use Rattle.verdict.proofs.kinds_of.Statement.{statement}
-use Rattle.verdict.proofs.kinds_of.Tie as tie
+use Rattle.network.specs.FromPlan.{ofKind, firmAt, exposedAt}
+use Rattle.network.proofs.kinds_of.Statement.{statement}
+use Rattle.network.proofs.kinds_of.Tie as tie
 
 abbrev Inv-loop : tie.InvT-loop
 Inv-loop bits kind n firm₀ exposed₀ b₀ firm exposed b = (b ≤ n) × (firm ≡ gather (firmAt kind) b) × (exposed ≡ gather (exposedAt kind) b)

@@ -1,10 +1,10 @@
--- `verdict::is_either` meets its contract.
+-- `network::is_either` meets its contract.
 -- Assumes nothing.
 use borrow.Author.Tests.{eq-eqb, ne-eqb}
 use Rattle.bounded.proofs.Bools.{or-l, or-go}
 use mathlib.Core.Path.{sym}
-use Rattle.verdict.proofs.is_either.Statement.{statement}
-use Rattle.verdict.proofs.is_either.Tie as tie
+use Rattle.network.proofs.is_either.Statement.{statement}
+use Rattle.network.proofs.is_either.Tie as tie
 
 returns : tie.Need-returns
 returns c = sym (or-l _ _ (eq-eqb _ _ (c .if1 .taken)))

@@ -9,7 +9,7 @@ use Rattle.bounded.specs.Bounded.{any, table}
 use Rattle.sets.specs.Sets.{gather}
 use Rattle.precedence.specs.Precedence.{closureOf}
 use Rattle.plan.specs.declared.Plan.{Plan}
-use Rattle.verdict.specs.declared.Network.{Network}
+use Rattle.network.specs.declared.Network.{Network}
 
 -- booking b is of one of two kinds
 unfoldable pub ofKind : ℕ → ℕ → List ℕ → ℕ → Bool

@@ -20,9 +20,9 @@ use Rattle.precedence.specs.Precedence as Chains
 use Rattle.precedence.proofs.Chains.{precedes-trans, closure-chain, chain-closure, precedes-below}
 use Rattle.plan.specs.declared.Plan.{Plan}
 use Rattle.plan.proofs.Valid.{Valid}
-use Rattle.verdict.specs.FromPlan.{ofKind, firmAt, exposedAt, joins, linked, directAt, directOf, networkOf, Ends}
-use Rattle.verdict.specs.Network.{wayOf, inWay, before, pre, firm, exposed}
-use Rattle.verdict.proofs.Facts.{Shape, some-way}
+use Rattle.network.specs.FromPlan.{ofKind, firmAt, exposedAt, joins, linked, directAt, directOf, networkOf, Ends}
+use Rattle.network.specs.Network.{wayOf, inWay, before, pre, firm, exposed}
+use Rattle.network.proofs.Facts.{Shape, some-way}
 
 pub valid-fits : (p : Plan) → Valid p → (p .n ≤ 64) × Ends (p .from) (p .to) (p .m)
 valid-fits p v =

@@ -1,9 +1,9 @@
--- `verdict::network_of` meets its contract.
+-- `network::network_of` meets its contract.
 -- Assumes nothing.
-use Rattle.verdict.proofs.Links.{network-is}
+use Rattle.network.proofs.Links.{network-is}
 use borrow.Author.Needs.{needs}
-use Rattle.verdict.proofs.network_of.Statement.{statement}
-use Rattle.verdict.proofs.network_of.Tie as tie
+use Rattle.network.proofs.network_of.Statement.{statement}
+use Rattle.network.proofs.network_of.Tie as tie
 
 direct-requires : tie.Need-direct-requires
 direct-requires c κs = (c .before .bits .ensures, c .before .before .before .before .before .before .pre .1)

@@ -1,7 +1,7 @@
--- `verdict::direct` meets its contract.
+-- `network::direct` meets its contract.
 -- Assumes nothing.
-use Rattle.verdict.proofs.Links.{direct-none, direct-fits, direct-turn}
-use Rattle.verdict.specs.FromPlan.{directAt, directOf}
+use Rattle.network.proofs.Links.{direct-none, direct-fits, direct-turn}
+use Rattle.network.specs.FromPlan.{directAt, directOf}
 use Rattle.bounded.proofs.Lists.{table-is}
 use lib.Bits.{bitOr}
 use Rattle.sets.specs.Sets.{insert}
@@ -10,8 +10,8 @@ use lib.ListN.{length, getD, length-set}
 use Prim.Native.Nat.{ℕ, _≤_, _<_, _-_}
 use mathlib.Core.Path.{_≡_, refl}
 use native.Mathlib.Omega.{arith}
-use Rattle.verdict.proofs.direct.Statement.{statement}
-use Rattle.verdict.proofs.direct.Tie as tie
+use Rattle.network.proofs.direct.Statement.{statement}
+use Rattle.network.proofs.direct.Tie as tie
 
 abbrev Inv-loop : tie.InvT-loop
 Inv-loop bits m from to d₀ i₀ d i = (i ≤ m) × (length d ≡ 64) × ((v : ℕ) → v < 64 → getD d v 0 ≡ directAt from to i v)

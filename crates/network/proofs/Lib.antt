@@ -1,0 +1,4 @@
+-- The laws of crate `network`.
+pub mod Facts
+pub mod Plans
+pub mod Links

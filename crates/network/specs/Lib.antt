@@ -1,0 +1,3 @@
+-- The definitions of crate `network`.
+pub mod Network
+pub mod FromPlan
