@@ -42,12 +42,15 @@ pub struct Replied {
 }
 
 // Rule 2: the lowest booking to return, or 64.
-fn to_return(g: Network, s: Standing, way: u64) -> usize
-    requires { ⌜ g .n ≤ 64 ⌝ }
+fn to_return(g: Network, before: &[u64; 64], s: Standing, way: u64) -> usize
+    requires { ⌜ (now before ≡ g .before) × (g .n ≤ 64) ⌝ }
     ensures { λ x. ⌜ x ≡ first (toReturn g s way) 64 ⌝ }
 {
     let outside = sets::minus(s.held, way);
-    sets::lowest(sets::minus(outside, standing::preceding(g, s.held | s.returning)))
+    sets::lowest(sets::minus(
+        outside,
+        standing::preceding(g, before, s.held | s.returning),
+    ))
 }
 
 // Whether b is in the set `wanted` and all that precede it are in the set `held`.
@@ -62,13 +65,13 @@ fn is_ready(wanted: u64, held: u64, before: u64, b: usize) -> bool
 }
 
 // Rule 4: the lowest booking to request, or n.
-fn to_request(g: Network, s: Standing, way: u64) -> usize
-    requires { ⌜ g .n ≤ 64 ⌝ }
+fn to_request(g: Network, before: &[u64; 64], s: Standing, way: u64) -> usize
+    requires { ⌜ (now before ≡ g .before) × (g .n ≤ 64) ⌝ }
     ensures { λ y. ⌜ y ≡ first (toRequest g s way) (g .n) ⌝ }
 {
     let wanted = s.free & way;
     for b in 0..g.n {
-        if is_ready(wanted, s.held, g.before[b], b) {
+        if is_ready(wanted, s.held, before[b], b) {
             return b;
         }
     }
@@ -132,11 +135,13 @@ impl Run {
         requires { ⌜ (g .n ≤ 64) × (self .way ≤ 16) × (s ≡ standing g self) ⌝ }
         ensures { λ t. ⌜ t ≡ next g self ⌝ }
     {
-        let way = standing::way_of(g, self.way as usize);
+        let before = g.before;
+        let ways = g.way;
+        let way = standing::way_of(g, &ways, self.way as usize);
         if s.lost_in(way) {
             return self.unchanged(Order::Wait);
         }
-        let x = to_return(g, s, way);
+        let x = to_return(g, &before, s, way);
         if x < 64 {
             return Ordered {
                 order: Order::Return(x),
@@ -146,7 +151,7 @@ impl Run {
         if s.returning != 0 {
             return self.unchanged(Order::Wait);
         }
-        let y = to_request(g, s, way);
+        let y = to_request(g, &before, s, way);
         if y < g.n {
             return Ordered {
                 order: Order::Request(y),
@@ -172,11 +177,12 @@ impl Run {
         if deciding != 0 {
             return self;
         }
-        let current = standing::way_of(g, self.way as usize);
+        let ways = g.way;
+        let current = standing::way_of(g, &ways, self.way as usize);
         if s.lost_in(current) {
             let code = self.code;
             return Run {
-                way: s.first_live(g),
+                way: s.first_live(g, &ways),
                 code,
             };
         }

@@ -49,12 +49,12 @@ fn is_formed(g: Network, r: Run) -> bool
 }
 
 // Requested, held and returning bookings have all predecessors held.
-fn all_founded(g: Network, s: Standing) -> bool
-    requires { ⌜ g .n ≤ 64 ⌝ }
+fn all_founded(g: Network, before: &[u64; 64], s: Standing) -> bool
+    requires { ⌜ (now before ≡ g .before) × (g .n ≤ 64) ⌝ }
     ensures { λ t. ⌜ t ≡ allFounded g s ⌝ }
 {
     let active = s.requested | (s.held | s.returning);
-    sets::subset(standing::preceding(g, active), s.held)
+    sets::subset(standing::preceding(g, before, active), s.held)
 }
 
 // Returning ones are C, so exposed and not firm, and outside the current way.
@@ -91,13 +91,13 @@ fn ways_before(g: Network, w: usize) -> usize
 }
 
 // Every way before way w (all ways, for 0) is not live.
-fn earlier_dead(g: Network, s: Standing, w: usize) -> bool
-    requires { ⌜ (g .a ≤ 16) × (w ≤ 16) ⌝ }
+fn earlier_dead(g: Network, ways: &[u64; 16], s: Standing, w: usize) -> bool
+    requires { ⌜ (now ways ≡ g .way) × (g .a ≤ 16) × (w ≤ 16) ⌝ }
     ensures { λ t. ⌜ t ≡ earlierDead g s w ⌝ }
 {
     let end = ways_before(g, w);
     for k in 0..end {
-        if s.is_live(g, g.way[k]) {
+        if s.is_live(g, ways[k]) {
             return false;
         }
     }
@@ -105,11 +105,11 @@ fn earlier_dead(g: Network, s: Standing, w: usize) -> bool
 }
 
 // A lost booking in the current way has its predecessors held, and something is requested.
-fn lost_pending(g: Network, s: Standing, way: u64) -> bool
-    requires { ⌜ g .n ≤ 64 ⌝ }
+fn lost_pending(g: Network, before: &[u64; 64], s: Standing, way: u64) -> bool
+    requires { ⌜ (now before ≡ g .before) × (g .n ≤ 64) ⌝ }
     ensures { λ t. ⌜ t ≡ lostPending g s way ⌝ }
 {
-    if !sets::subset(standing::preceding(g, s.lost & way), s.held) {
+    if !sets::subset(standing::preceding(g, before, s.lost & way), s.held) {
         return false;
     }
     if s.lost_in(way) {
@@ -126,8 +126,10 @@ pub fn is_sound(g: Network, r: Run, s: Standing) -> bool
     if !is_formed(g, r) {
         return false;
     }
-    let way = standing::way_of(g, r.way as usize);
-    if !all_founded(g, s) {
+    let before = g.before;
+    let ways = g.way;
+    let way = standing::way_of(g, &ways, r.way as usize);
+    if !all_founded(g, &before, s) {
         return false;
     }
     // Lost ones are exposed.
@@ -144,12 +146,12 @@ pub fn is_sound(g: Network, r: Run, s: Standing) -> bool
     if !quiet(s, way) {
         return false;
     }
-    if !earlier_dead(g, s, r.way as usize) {
+    if !earlier_dead(g, &ways, s, r.way as usize) {
         return false;
     }
     // Held firm bookings are in the current way (none for 0).
     if !sets::subset(s.held & g.firm, way) {
         return false;
     }
-    lost_pending(g, s, way)
+    lost_pending(g, &before, s, way)
 }

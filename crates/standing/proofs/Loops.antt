@@ -1,7 +1,9 @@
 -- The loops over a standing: what precedes a set, and the first live way.
 -- Assumes nothing.
 use mathlib.Core.Path.{_≡_, sym, ap, _∙_}
-use mathlib.Core.Bool.{Bool, true, false, _&&_, _||_}
+use mathlib.Core.Logic.{inl, inr}
+use mathlib.Core.Bool.{Bool, true, _&&_, _||_, cond}
+use mathlib.Core.List.{List}
 use Prim.Native.Nat.{ℕ, _+_, _^_, _≤_, _<_}
 use native.Mathlib.Nat.{le-refl}
 use native.Mathlib.Numerals.{add-one}
@@ -9,7 +11,7 @@ use borrow.Author.Tests.{lt-ltb, le-ltb}
 use lib.Bits.{bitOr}
 use lib.ListN.{getD}
 use Rattle.bounded.specs.Bounded.{any}
-use Rattle.bounded.proofs.Bools.{or-false}
+use Rattle.bounded.proofs.Bools.{which, or-false}
 use Rattle.bounded.proofs.Tests.{any-suc}
 use Rattle.bounded.proofs.Loops.{So-far, first-at, first-over}
 use Rattle.sets.specs.Sets.{member}
@@ -22,29 +24,29 @@ use Rattle.standing.specs.declared.Standing.{Standing}
 
 -- ---- what precedes a set
 
-module _ (g : Network) (s : ℕ) where
+-- b is among the predecessors of v, a member of s; p has the predecessors of each booking
+unfoldable pub supportsIn : List ℕ → ℕ → ℕ → ℕ → Bool
+supportsIn p s b v = member s v && member (getD p v 0) b
+
+module _ (p : List ℕ) (s : ℕ) where
   -- r has what precedes those members of s that are below v
   abbrev pub Gathered : ℕ → ℕ → Type 0
-  Gathered r v = (b : ℕ) → member r b ≡ any (supports g s b) v
+  Gathered r v = (b : ℕ) → member r b ≡ any (supportsIn p s b) v
 
   pub gathered-none : Gathered 0 0
   unfolding any
   gathered-none b = member-zero b
 
-  pub gathered-more : (r v : ℕ) → Gathered r v → member s v ≡ true → Gathered (bitOr r (getD (g .before) v 0)) (v + 1)
-  unfolding supports pre before
-  gathered-more r v h e b =
-      member-or r (getD (g .before) v 0) b ∙ ap (λ (t : Bool). t || member (getD (g .before) v 0) b) (h b)
-      ∙ sym (any-suc (supports g s b) v ∙ ap (λ (t : Bool). any (supports g s b) v || (t && member (getD (g .before) v 0) b)) e)
+  pub gathered-more : (r v t : ℕ) → Gathered r v → t ≡ cond (member s v) (bitOr r (getD p v 0)) r → Gathered t (v + 1)
+  unfolding supportsIn
+  gathered-more r v t h e b = elim (which (member s v)) [
+    | inl m ↦ rw (e, m, any-suc (supportsIn p s b) v, m) (member-or r (getD p v 0) b ∙ ap (λ (z : Bool). z || member (getD p v 0) b) (h b))
+    | inr m ↦ rw (e, m, any-suc (supportsIn p s b) v, m) (h b ∙ sym (or-false (any (supportsIn p s b) v)))
+  ]
 
-  pub gathered-same : (r v : ℕ) → Gathered r v → member s v ≡ false → Gathered r (v + 1)
-  unfolding supports
-  gathered-same r v h e b =
-      h b ∙ sym (any-suc (supports g s b) v ∙ ap (λ (t : Bool). any (supports g s b) v || (t && pre g b v)) e ∙ or-false (any (supports g s b) v))
-
-  pub gathered-all : (r v : ℕ) → Gathered r v → r < 2 ^ 64 → v ≡ g .n → r ≡ preceding g s
-  unfolding preceding precedesSome
-  gathered-all r v h l e = gather-is (precedesSome g s) 64 r l (λ b k. rw e at (h b))
+  pub gathered-all : (g : Network) → p ≡ g .before → (r v : ℕ) → Gathered r v → r < 2 ^ 64 → v ≡ g .n → r ≡ preceding g s
+  unfolding preceding precedesSome supports supportsIn pre before
+  gathered-all g ep r v h l e = gather-is (precedesSome g s) 64 r l (λ b k. rw (e, ep) at (h b))
 
 -- ---- the first live way
 

@@ -1,10 +1,10 @@
 // How the bookings of a plan stand: one look at the codes of a state gives the set of each code, and the rules ask these sets.
 use network::Network;
 ghost use mathlib.Core.Path.{_≡_};
-ghost use Prim.Native.Nat.{suc, _≤_, _<_};
-ghost use lib.Dec.{leb};
-ghost use Rattle.bounded.specs.Bounded.{any};
-ghost use Rattle.sets.specs.Sets.{alone};
+ghost use mathlib.Core.Bool.{cond};
+ghost use Prim.Native.Nat.{_≤_, _<_};
+ghost use lib.Bits.{bitOr};
+ghost use Rattle.sets.specs.Sets.{member};
 ghost use Rattle.network.specs.Network.{wayOf};
 ghost use Rattle.standing.specs.Standing.{placed, moved, standingOf};
 ghost use Rattle.standing.specs.Ways.{preceding, lostIn, live, firstLive};
@@ -72,13 +72,13 @@ impl Standing {
         sets::subset(self.held & g.firm, way)
     }
 
-    // The first live way, or 0 if there is none.
-    pub fn first_live(self, g: Network) -> u8
-        requires { ⌜ g .a ≤ 16 ⌝ }
+    // The first live way, or 0 if there is none; `ways` are those of the network.
+    pub fn first_live(self, g: Network, ways: &[u64; 16]) -> u8
+        requires { ⌜ (now ways ≡ g .way) × (g .a ≤ 16) ⌝ }
         ensures { λ w. ⌜ w ≡ firstLive g self ⌝ }
     {
         for k in 0..g.a {
-            if self.is_live(g, g.way[k]) {
+            if self.is_live(g, ways[k]) {
                 return (k + 1) as u8;
             }
         }
@@ -105,28 +105,36 @@ pub fn look(code: [u8; 64], n: usize) -> Standing
     s
 }
 
+// The next two functions take the network, and beside it by reference the array of it that they read: to read an element of a field
+// would copy the network.
+
 // The bookings of way w; no way has none.
-pub fn way_of(g: Network, w: usize) -> u64
-    requires { ⌜ w ≤ 16 ⌝ }
+pub fn way_of(g: Network, ways: &[u64; 16], w: usize) -> u64
+    requires { ⌜ (now ways ≡ g .way) × (w ≤ 16) ⌝ }
     ensures { λ s. ⌜ s ≡ wayOf g w ⌝ }
 {
     if w == 0 {
         return 0;
     }
-    let k = w - 1;
-    g.way[k]
+    ways[w - 1]
+}
+
+// The set r, with the set x where v is in s.
+fn joined(r: u64, s: u64, v: usize, x: u64) -> u64
+    requires { ⌜ v < 64 ⌝ }
+    ensures { λ t. ⌜ t ≡ cond (member s v) (bitOr r x) r ⌝ }
+{
+    if sets::has(s, v) { r | x } else { r }
 }
 
 // The bookings that precede some member of s.
-pub fn preceding(g: Network, s: u64) -> u64
-    requires { ⌜ g .n ≤ 64 ⌝ }
+pub fn preceding(g: Network, before: &[u64; 64], s: u64) -> u64
+    requires { ⌜ (now before ≡ g .before) × (g .n ≤ 64) ⌝ }
     ensures { λ r. ⌜ r ≡ preceding g s ⌝ }
 {
     let mut r: u64 = 0;
     for v in 0..g.n {
-        if sets::has(s, v) {
-            r = r | g.before[v];
-        }
+        r = joined(r, s, v, before[v]);
     }
     r
 }

@@ -9,6 +9,9 @@ use Rattle.run.proofs.Steps.{return-is}
 use Rattle.run.proofs.to_return.Statement.{statement}
 use Rattle.run.proofs.to_return.Tie as tie
 
+preceding-requires : tie.Need-preceding-requires
+preceding-requires c κs = c .before .before .pre
+
 returns : tie.Need-returns
 returns c =
     let p = c .before .before in
@@ -16,4 +19,4 @@ returns c =
     (c .before .minus2 .ensures ∙ ap₂ without (p .before .before .minus .ensures) (p .preceding .ensures)))
 
 pub to-return-spec : {M : Type 1} → statement M
-to-return-spec = tie.close (tie.spec (search needs) (search needs) (search needs) (search needs) returns)
+to-return-spec = tie.close (tie.spec (search needs) preceding-requires (search needs) (search needs) returns)

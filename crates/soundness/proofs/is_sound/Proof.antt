@@ -1,6 +1,6 @@
 -- `soundness::is_sound` meets its contract.
 -- Assumes nothing.
-use mathlib.Core.Path.{_≡_, ap₂, _∙_}
+use mathlib.Core.Path.{_≡_, refl, ap₂, _∙_}
 use mathlib.Core.Bool.{Bool}
 use Prim.Native.Nat.{ℕ, _≤_}
 use native.Mathlib.Omega.{arith}
@@ -16,7 +16,7 @@ use Rattle.soundness.proofs.is_sound.Tie as tie
 
 -- where the current way was looked up, from each place, and where the test began
 abbrev way2 : tie.Else2 → tie.After-way-of
-way2 c = c .before .before
+way2 c = c .before .before .before
 
 abbrev way3 : tie.Else3 → tie.After-way-of
 way3 c = way2 (c .before .before)
@@ -31,10 +31,10 @@ abbrev way6 : tie.Else6 → tie.After-way-of
 way6 c = way5 (c .before .before)
 
 abbrev way7 : tie.Else7 → tie.After-way-of
-way7 c = way6 (c .before .before .before)
+way7 c = way6 (c .before .before .before .before)
 
 abbrev from : tie.After-way-of → tie.Start
-from w = w .before .before .before .before
+from w = w .before .before .before .before .before .before .before
 
 -- a sentence about what the code looks at is about the state
 told : (w : tie.After-way-of) (F : Standing → ℕ → Bool)
@@ -49,10 +49,13 @@ returns : tie.Need-returns
 returns c = fails _ _ _ (λ p. p .formed) _ (c .before .is-formed .ensures) (c .if1 .taken)
 
 way-of-requires : tie.Need-way-of-requires
-way-of-requires c κs = few (c .before)
+way-of-requires c κs = (refl, few (c .before .before .before .before))
+
+all-founded-requires : tie.Need-all-founded-requires
+all-founded-requires c κs = (refl, omega arith)
 
 returns-2 : tie.Need-returns-2
-returns-2 c = let w = c .before .before in
+returns-2 c = let w = c .before .before .before in
     fails _ _ _ (λ p. p .founds) _ (c .before .all-founded .ensures ∙ told w (λ (s : Standing) (x : ℕ). allFounded (from w .args .g) s)) (c .if2 .taken)
 
 returns-3 : tie.Need-returns-3
@@ -74,10 +77,13 @@ returns-6 c = let w = way5 (c .before .before) in
     fails _ _ _ (λ p. p .quiets) _ (c .before .quiet .ensures ∙ told w quiet) (c .if6 .taken)
 
 earlier-dead-requires : tie.Need-earlier-dead-requires
-earlier-dead-requires c κs = omega (arith, few (way6 (c .before) .before .before))
+earlier-dead-requires c κs = (refl, omega arith, few (way6 (c .before .before) .before .before .before .before .before))
+
+lost-pending-requires : tie.Need-lost-pending-requires
+lost-pending-requires c κs = (refl, from (way7 (c .before .before .before .before .before)) .pre .0)
 
 returns-7 : tie.Need-returns-7
-returns-7 c = let w = way6 (c .before .before .before) in
+returns-7 c = let w = way6 (c .before .before .before .before) in
     fails _ _ _ (λ p. p .earlier) _ (c .before .earlier-dead .ensures ∙ told w (λ (s : Standing) (x : ℕ). earlierDead (from w .args .g) s (from w .args .r .way))) (c .if7 .taken)
 
 returns-8 : tie.Need-returns-8
@@ -88,15 +94,15 @@ returns-8 c = let w = way7 (c .before .before .before .before) in
 returns-9 : tie.Need-returns-9
 unfolding lostExposed requestedInside firmInside heldFirm
 returns-9 c =
-    let c8 = c .before in
+    let c8 = c .before .before in
     let c7 = c8 .before .before .before .before in
-    let c6 = c7 .before .before .before in
+    let c6 = c7 .before .before .before .before in
     let c5 = c6 .before .before in
     let c4 = c5 .before .before in
     let c3 = c4 .before .before in
     let c2 = c3 .before .before in
     let w = way2 c2 in
-    let c1 = w .before .before in
+    let c1 = w .before .before .before .before .before in
     let g = from w .args .g in
     c .lost-pending .ensures ∙ told w (lostPending g) ∙ sound-last _ _ (record {
       formed = went (c1 .before .is-formed .ensures) (c1 .if1 .left);
@@ -117,7 +123,7 @@ is-sound-spec =
     returns
     (search needs)
     way-of-requires
-    (search needs)
+    all-founded-requires
     returns-2
     (search needs)
     returns-3
@@ -132,5 +138,5 @@ is-sound-spec =
     returns-7
     (search needs)
     returns-8
-    (search needs)
+    lost-pending-requires
     returns-9)

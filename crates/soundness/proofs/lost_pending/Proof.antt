@@ -6,6 +6,9 @@ use Rattle.soundness.proofs.Tests.{pending-loose, pending-asked, pendin
 use Rattle.soundness.proofs.lost_pending.Statement.{statement}
 use Rattle.soundness.proofs.lost_pending.Tie as tie
 
+preceding-requires : tie.Need-preceding-requires
+preceding-requires c κs = c .before .pre
+
 returns : tie.Need-returns
 returns c = pending-loose _ _ _ _ (c .before .before .preceding .ensures) _ (c .before .subset .ensures) (c .if1 .taken)
 
@@ -22,4 +25,4 @@ returns-3 c =
     pending-none _ _ _ _ (s .before .preceding .ensures) _ (s .subset .ensures) (l .before .if1 .left) (got (l .lost-in .ensures) (c .if2 .left))
 
 pub lost-pending-spec : {M : Type 1} → statement M
-lost-pending-spec = tie.close (tie.spec (search needs) (search needs) returns (search needs) returns-2 returns-3)
+lost-pending-spec = tie.close (tie.spec preceding-requires (search needs) returns (search needs) returns-2 returns-3)

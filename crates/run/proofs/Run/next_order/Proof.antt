@@ -1,6 +1,6 @@
 -- `run::Run::next_order` meets its contract.
 -- Assumes nothing.
-use mathlib.Core.Path.{_≡_, _∙_}
+use mathlib.Core.Path.{_≡_, refl, _∙_}
 use native.Mathlib.Omega.{arith}
 use borrow.Author.Needs.{needs}
 use Rattle.bounded.proofs.Bools.{got}
@@ -14,19 +14,19 @@ abbrev way1 : tie.Else1 → tie.After-way-of
 way1 c = c .before .before
 
 abbrev way2 : tie.Else2 → tie.After-way-of
-way2 c = way1 (c .before .before)
+way2 c = way1 (c .before .before .before)
 
 abbrev way3 : tie.Else3 → tie.After-way-of
 way3 c = way2 (c .before .before)
 
 abbrev way4 : tie.Else4 → tie.After-way-of
-way4 c = way3 (c .before .before .before)
+way4 c = way3 (c .before .before .before .before)
 
 abbrev way5 : tie.Else5 → tie.After-way-of
 way5 c = way4 (c .before .before)
 
 abbrev from : tie.After-way-of → tie.Start
-from w = w .before .before
+from w = w .before .before .before .before .before
 
 -- how the bookings stand is what the caller says
 stands : (w : tie.After-way-of) → from w .args .s ≡ standing (from w .args .g) (from w .args .self)
@@ -37,16 +37,25 @@ past1 : (c : tie.Else1) → Leads rule2 (from (way1 c) .args .g) (from (way1 c) 
 past1 c = past-1 _ _ _ (stands (way1 c)) _ (way1 c .way-of .ensures) (got (c .before .lost-in .ensures) (c .if1 .left))
 
 past2 : (c : tie.Else2) → Leads rule3 (from (way2 c) .args .g) (from (way2 c) .args .self)
-past2 c = past-2 _ _ _ (stands (way2 c)) _ (way2 c .way-of .ensures) _ (c .before .to-return .ensures) (omega arith) ∙ past1 (c .before .before)
+past2 c = past-2 _ _ _ (stands (way2 c)) _ (way2 c .way-of .ensures) _ (c .before .to-return .ensures) (omega arith) ∙ past1 (c .before .before .before)
 
 past3 : (c : tie.Else3) → Leads rule4 (from (way3 c) .args .g) (from (way3 c) .args .self)
 past3 c = past-3 _ _ _ (stands (way3 c)) _ (way3 c .way-of .ensures) (c .if3 .left) ∙ past2 (c .before .before)
 
 past4 : (c : tie.Else4) → Leads rule5 (from (way4 c) .args .g) (from (way4 c) .args .self)
-past4 c = past-4 _ _ _ (stands (way4 c)) _ (way4 c .way-of .ensures) _ (c .before .before .to-request .ensures) (omega arith) ∙ past3 (c .before .before .before)
+past4 c = past-4 _ _ _ (stands (way4 c)) _ (way4 c .way-of .ensures) _ (c .before .before .to-request .ensures) (omega arith) ∙ past3 (c .before .before .before .before)
 
 past5 : (c : tie.Else5) → Leads rule6 (from (way5 c) .args .g) (from (way5 c) .args .self)
 past5 c = past-5 _ _ _ (stands (way5 c)) _ (way5 c .way-of .ensures) (c .if5 .left) ∙ past4 (c .before .before)
+
+way-of-requires : tie.Need-way-of-requires
+way-of-requires c κs = (refl, omega arith)
+
+to-return-requires : tie.Need-to-return-requires
+to-return-requires c κs = (refl, omega arith)
+
+to-request-requires : tie.Need-to-request-requires
+to-request-requires c κs = (refl, omega arith)
 
 returns : tie.Need-returns
 returns c =
@@ -55,7 +64,7 @@ returns c =
 
 returns-2 : tie.Need-returns-2
 returns-2 c =
-    let l = c .before .before .before in
+    let l = c .before .before .before .before in
     return-now _ _ _ (stands (way1 l)) _ (way1 l .way-of .ensures) _ (c .before .before .to-return .ensures) (omega arith) _ (c .put .ensures) ∙ past1 l
 
 returns-3 : tie.Need-returns-3
@@ -65,7 +74,7 @@ returns-3 c =
 
 returns-4 : tie.Need-returns-4
 returns-4 c =
-    let l = c .before .before .before .before in
+    let l = c .before .before .before .before .before in
     request-now _ _ _ (stands (way3 l)) _ (way3 l .way-of .ensures) _ (c .before .before .before .to-request .ensures) (omega arith) _ (c .put2 .ensures) ∙ past3 l
 
 returns-5 : tie.Need-returns-5
@@ -84,16 +93,16 @@ next-order-spec =
     tie.close
     (tie.spec
     (search needs)
-    (search needs)
+    way-of-requires
     (search needs)
     (search needs)
     returns
-    (search needs)
+    to-return-requires
     (search needs)
     returns-2
     (search needs)
     returns-3
-    (search needs)
+    to-request-requires
     (search needs)
     returns-4
     (search needs)
