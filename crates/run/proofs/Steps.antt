@@ -1,13 +1,17 @@
 -- Rule 2 as work on whole sets, and how the bookings stand after a Y or an N.
 -- Assumes nothing.
-use mathlib.Core.Path.{_≡_, ap, _∙_}
-use mathlib.Core.Bool.{Bool, not, _&&_}
+use mathlib.Core.Path.{_≡_, sym, ap, _∙_}
+use mathlib.Core.Bool.{Bool, false, not, _&&_}
 use Prim.Native.Nat.{ℕ, _^_, _≤_, _<_}
+use native.Mathlib.Nat.{le-refl}
 use lib.ListN.{length}
 use lib.Bits.{bitOr}
 use Rattle.bounded.specs.Bounded.{first}
+use Rattle.bounded.proofs.Bools.{and-no-l}
 use Rattle.bounded.proofs.First.{first-ext}
+use Rattle.bounded.proofs.Loops.{first-over}
 use Rattle.sets.specs.Sets.{member, without}
+use Rattle.sets.proofs.Members.{member-zero}
 use Rattle.sets.proofs.Gather.{member-gather}
 use Rattle.sets.proofs.Operations.{member-without}
 use Rattle.network.specs.declared.Network.{Network}
@@ -18,6 +22,12 @@ use Rattle.standing.proofs.Codes.{moved-is}
 use Rattle.run.specs.declared.Run.{Run}
 use Rattle.run.specs.State.{standing, put}
 use Rattle.run.specs.Orders.{toReturn}
+
+pub return-none : (g : Network) (s : Standing) (way m : ℕ) → m ≡ without (s .held) way → m ≡ 0 → 64 ≡ first (toReturn g s way) 64
+unfolding toReturn
+return-none g s way m e z =
+    let none : (i : ℕ) → member (without (s .held) way) i ≡ false = λ i. ap (λ (x : ℕ). member x i) (sym e ∙ z) ∙ member-zero i in
+    first-over (toReturn g s way) 64 64 (λ i h. and-no-l _ _ (none i)) (le-refl 64)
 
 pub return-is : (g : Network) (s : Standing) (way x : ℕ)
     → x ≡ first (member (without (without (s .held) way) (preceding g (bitOr (s .held) (s .returning))))) 64 → x ≡ first (toReturn g s way) 64

@@ -47,6 +47,9 @@ fn to_return(g: Network, before: &[u64; 64], s: Standing, way: u64) -> usize
     ensures { λ x. ⌜ x ≡ first (toReturn g s way) 64 ⌝ }
 {
     let outside = sets::minus(s.held, way);
+    if outside == 0 {
+        return 64;
+    }
     sets::lowest(sets::minus(
         outside,
         standing::preceding(g, before, s.held | s.returning),

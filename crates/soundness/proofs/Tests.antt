@@ -13,13 +13,13 @@ use lib.Bits.{bitAnd, bitOr, or-add-and, and-le-l, and-le-r}
 use Rattle.bounded.specs.Bounded.{imp, all}
 use Rattle.bounded.proofs.Bools.{_&_, and-l, and-r, and-no-l, and-no-r, off, clash, imp-e, imp-i, not-i, same-test, split?, went, and-true}
 use Rattle.bounded.proofs.Tests.{all-i, all-e, all-suc}
-use Rattle.sets.specs.Sets.{without, subsetOf, some}
-use Rattle.sets.proofs.Facts.{some-on, some-off}
+use Rattle.sets.specs.Sets.{without, subsetOf, disjointFrom, some}
+use Rattle.sets.proofs.Facts.{subset-i, meet-i, both-e, some-on, some-off}
 use Rattle.network.specs.declared.Network.{Network}
 use Rattle.standing.specs.Standing.{free, returning, codeIs}
 use Rattle.standing.specs.Ways.{preceding, lostIn, liveAt}
 use Rattle.standing.specs.declared.Standing.{Standing}
-use Rattle.standing.proofs.Facts.{is-e}
+use Rattle.standing.proofs.Facts.{is-e, preceding-e}
 use Rattle.run.specs.declared.Run.{Run}
 use Rattle.run.specs.State.{code, is}
 use Rattle.run.specs.Sound.{codeKnown, codesKnown, wayKnown, zeroPast, restZero, quiet, waysBefore, passedOver, earlierDead, lostPending}
@@ -102,21 +102,31 @@ module _ (s : Standing) (way : ℕ) where
 
 -- ---- a lost booking in the current way
 
-module _ (g : Network) (s : Standing) (way p : ℕ) (ep : p ≡ preceding g (bitAnd (s .lost) way)) (x : Bool) (ex : x ≡ subsetOf p (s .held)) where
-  based : x ≡ subsetOf (preceding g (bitAnd (s .lost) way)) (s .held)
-  based = ex ∙ ap (λ (t : ℕ). subsetOf t (s .held)) ep
+module _ (g : Network) (s : Standing) (way : ℕ) where
+  -- with none, nothing precedes it
+  none-based : g .n ≤ 64 → lostIn s way ≡ false → subsetOf (preceding g (bitAnd (s .lost) way)) (s .held) ≡ true
+  unfolding lostIn
+  none-based small l = subset-i (preceding g (bitAnd (s .lost) way)) (s .held) (λ u h m.
+      let p = preceding-e g (bitAnd (s .lost) way) u m in
+      let t = both-e (s .lost) way (p .0) (p .2) in
+      clash (not (disjointFrom way (s .lost))) (meet-i way (s .lost) (p .0) (omega (arith, p .1)) (t .1) (t .0)) l)
 
-  pub pending-loose : not x ≡ true → false ≡ lostPending g s way
+  pub pending-none : g .n ≤ 64 → lostIn s way ≡ false → true ≡ lostPending g s way
   unfolding lostPending
-  pending-loose n = sym (and-no-l _ _ (sym based ∙ not-true x n))
+  pending-none small l = rw (none-based small l, l)
 
-  pub pending-asked : not x ≡ false → lostIn s way ≡ true → not (eqb (s .requested) 0) ≡ lostPending g s way
-  unfolding lostPending some
-  pending-asked n l = rw (went based n, l)
+  module _ (l : lostIn s way ≡ true) where
+    pub pending-silent : s .requested ≡ 0 → false ≡ lostPending g s way
+    unfolding lostPending
+    pending-silent z =
+        let e : imp (lostIn s way) (some (s .requested)) ≡ false = rw (l, some-off (s .requested) (s .requested) refl z) in
+        sym (and-no-r (subsetOf (preceding g (bitAnd (s .lost) way)) (s .held)) _ e)
 
-  pub pending-none : not x ≡ false → lostIn s way ≡ false → true ≡ lostPending g s way
-  unfolding lostPending
-  pending-none n l = rw (went based n, l)
+    pub pending-based : s .requested ≢ 0 → (p : ℕ) → p ≡ preceding g (bitAnd (s .lost) way) → (x : Bool) → x ≡ subsetOf p (s .held) → x ≡ lostPending g s way
+    unfolding lostPending
+    pending-based d p ep x ex =
+        rw (l, some-on (s .requested) (s .requested) refl d)
+        (ex ∙ ap (λ (t : ℕ). subsetOf t (s .held)) ep ∙ sym (and-true (subsetOf (preceding g (bitAnd (s .lost) way)) (s .held))))
 
 -- ---- the ways before the current one
 

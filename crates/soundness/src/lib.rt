@@ -109,13 +109,13 @@ fn lost_pending(g: Network, before: &[u64; 64], s: Standing, way: u64) -> bool
     requires { ⌜ (now before ≡ g .before) × (g .n ≤ 64) ⌝ }
     ensures { λ t. ⌜ t ≡ lostPending g s way ⌝ }
 {
-    if !sets::subset(standing::preceding(g, before, s.lost & way), s.held) {
+    if !s.lost_in(way) {
+        return true;
+    }
+    if s.requested == 0 {
         return false;
     }
-    if s.lost_in(way) {
-        return s.requested != 0;
-    }
-    true
+    sets::subset(standing::preceding(g, before, s.lost & way), s.held)
 }
 
 // Whether the state is sound; s is how its bookings stand.

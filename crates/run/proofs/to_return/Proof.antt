@@ -5,18 +5,21 @@ use Prim.Native.Nat.{ℕ}
 use borrow.Author.Needs.{needs}
 use Rattle.bounded.specs.Bounded.{first}
 use Rattle.sets.specs.Sets.{member, without}
-use Rattle.run.proofs.Steps.{return-is}
+use Rattle.run.proofs.Steps.{return-none, return-is}
 use Rattle.run.proofs.to_return.Statement.{statement}
 use Rattle.run.proofs.to_return.Tie as tie
 
-preceding-requires : tie.Need-preceding-requires
-preceding-requires c κs = c .before .before .pre
-
 returns : tie.Need-returns
-returns c =
+returns c = return-none _ _ _ _ (c .before .minus .ensures) (c .if1 .taken)
+
+preceding-requires : tie.Need-preceding-requires
+preceding-requires c κs = c .before .before .before .pre
+
+returns-2 : tie.Need-returns-2
+returns-2 c =
     let p = c .before .before in
     return-is _ _ _ _ (c .lowest .ensures ∙ ap (λ (s : ℕ). first (member s) 64)
-    (c .before .minus2 .ensures ∙ ap₂ without (p .before .before .minus .ensures) (p .preceding .ensures)))
+    (c .before .minus2 .ensures ∙ ap₂ without (p .before .before .before .minus .ensures) (p .preceding .ensures)))
 
 pub to-return-spec : {M : Type 1} → statement M
-to-return-spec = tie.close (tie.spec (search needs) preceding-requires (search needs) (search needs) returns)
+to-return-spec = tie.close (tie.spec (search needs) returns preceding-requires (search needs) (search needs) returns-2)

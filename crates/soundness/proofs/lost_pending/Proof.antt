@@ -1,28 +1,29 @@
 -- `soundness::lost_pending` meets its contract.
 -- Assumes nothing.
+use mathlib.Core.Path.{sym, _∙_}
+use native.Mathlib.Omega.{arith}
+use borrow.Author.Tests.{not-true}
 use borrow.Author.Needs.{needs}
-use Rattle.bounded.proofs.Bools.{got}
-use Rattle.soundness.proofs.Tests.{pending-loose, pending-asked, pending-none}
+use Rattle.bounded.proofs.Bools.{went}
+use Rattle.soundness.proofs.Tests.{pending-none, pending-silent, pending-based}
 use Rattle.soundness.proofs.lost_pending.Statement.{statement}
 use Rattle.soundness.proofs.lost_pending.Tie as tie
 
-preceding-requires : tie.Need-preceding-requires
-preceding-requires c κs = c .before .pre
-
 returns : tie.Need-returns
-returns c = pending-loose _ _ _ _ (c .before .before .preceding .ensures) _ (c .before .subset .ensures) (c .if1 .taken)
+returns c = pending-none _ _ _ (omega arith) (sym (c .before .lost-in .ensures) ∙ not-true _ (c .if1 .taken))
 
 returns-2 : tie.Need-returns-2
-returns-2 c =
-    let l = c .before .before in
-    let s = l .before .before in
-    pending-asked _ _ _ _ (s .before .preceding .ensures) _ (s .subset .ensures) (l .before .if1 .left) (got (l .lost-in .ensures) (c .before .if2 .taken))
+returns-2 c = let e = c .before .before in pending-silent _ _ _ (went (e .before .lost-in .ensures) (e .if1 .left)) (c .if2 .taken)
+
+preceding-requires : tie.Need-preceding-requires
+preceding-requires c κs = c .before .before .before .before .before .pre
 
 returns-3 : tie.Need-returns-3
 returns-3 c =
-    let l = c .before in
-    let s = l .before .before in
-    pending-none _ _ _ _ (s .before .preceding .ensures) _ (s .subset .ensures) (l .before .if1 .left) (got (l .lost-in .ensures) (c .if2 .left))
+    let p = c .before in
+    let d = p .before .before in
+    let e = d .before .before in
+    pending-based _ _ _ (went (e .before .lost-in .ensures) (e .if1 .left)) (d .if2 .left) _ (p .preceding .ensures) _ (c .subset .ensures)
 
 pub lost-pending-spec : {M : Type 1} → statement M
-lost-pending-spec = tie.close (tie.spec preceding-requires (search needs) returns (search needs) returns-2 returns-3)
+lost-pending-spec = tie.close (tie.spec (search needs) returns returns-2 preceding-requires (search needs) returns-3)
