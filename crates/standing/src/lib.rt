@@ -1,4 +1,5 @@
 // How the bookings of a plan stand: one look at the codes of a state gives the set of each code, and the rules ask these sets.
+// A function that reads an array of the network is lent it beside the network: to read an element of a field would copy the network.
 use network::Network;
 ghost use mathlib.Core.Path.{_≡_};
 ghost use mathlib.Core.Bool.{cond};
@@ -104,9 +105,6 @@ pub fn look(code: [u8; 64], n: usize) -> Standing
     }
     s
 }
-
-// The next two functions take the network, and beside it by reference the array of it that they read: to read an element of a field
-// would copy the network.
 
 // The bookings of way w; no way has none.
 pub fn way_of(g: Network, ways: &[u64; 16], w: usize) -> u64
