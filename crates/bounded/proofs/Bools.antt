@@ -153,12 +153,6 @@ neither i j b = ap not (or-swap b (eqb j i)) ∙ elim (same? i j) [
   | inr d ↦ rw (ne-eqb i j d, ne-eqb j i (λ e. d (sym e)))
 ]
 
-pub or-imp : (a b : Bool) → a || b ≡ imp (not a) (not (not b))
-or-imp true true = refl
-or-imp true false = refl
-or-imp false true = refl
-or-imp false false = refl
-
 pub one-test : (b : Bool) → eqb (one b) 1 ≡ b
 one-test true = refl
 one-test false = refl

@@ -2,7 +2,7 @@
 -- Assumes nothing.
 use mathlib.Core.Path.{_≡_, refl, sym, ap, _∙_}
 use mathlib.Core.Logic.{⊎-elim}
-use mathlib.Core.Bool.{Bool, true, false, not, _&&_, _||_, cond}
+use mathlib.Core.Bool.{Bool, true, false, not, _&&_, _||_}
 use Prim.Native.Nat.{ℕ, zero, suc, _+_, _-_, _*_, _/_, _%_, _^_, _≤_, _<_, min, max}
 use native.Mathlib.Nat.{eq-or-lt-of-le, mod-lt, mod-eq-of-lt, div-eq-of-lt, div-one, mul-assoc, mul-add-mod-self-right, lt-of-lt-of-le, pow-suc, zero-lt-suc}
 use native.Mathlib.Omega.{arith}
@@ -12,7 +12,7 @@ use lib.Arith.{digits-mod, lt-one}
 use lib.Pow.{pow-pos, pow-mono, pow-add, shr-shr, high, field}
 use lib.Bits.{bitAnd, bitOr, bitXor, differ, and-step, or-step, xor-step, and-shr, or-shr, xor-shr}
 use Rattle.sets.specs.Sets.{member}
-use Rattle.bounded.proofs.Bools.{clash, split?, binary, and-true, and-no-r}
+use Rattle.bounded.proofs.Bools.{clash, split?, binary}
 
 pub two-pos : zero < 2
 two-pos = zero-lt-suc 1
@@ -89,15 +89,6 @@ member-past s n i h l = ap (λ (x : ℕ). eqb x 1) (bit-past i n s h l)
 
 pub member-zero : (i : ℕ) → member 0 i ≡ false
 member-zero i = member-past 0 0 i (omega arith) (omega arith)
-
--- s where t holds and no number elsewhere; y, or no number where t holds
-pub member-where : (t : Bool) (s b : ℕ) → member (cond t s 0) b ≡ t && member s b
-member-where true s b = refl
-member-where false s b = member-zero b
-
-pub member-unless : (t : Bool) (y i : ℕ) (x : Bool) → member y i ≡ x → member (cond t 0 y) i ≡ x && not t
-member-unless true y i x e = member-zero i ∙ sym (and-no-r x false refl)
-member-unless false y i x e = e ∙ sym (and-true x)
 
 -- ---- a set is known by its members
 
