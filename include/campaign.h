@@ -30,7 +30,7 @@
  * right-justified with spaces, without leading zeros. In order:
  *
  *     P   n   m   a      1 to 64 bookings, 0 to 512 links, 1 to 16 ways
- *     B   b k            n lines, b = 1, 2, .. n; kind k is C, P or R
+ *     B   b k            n lines, b = 1, 2, .. n; kind k is C, P, R or D
  *     L   u   v          m lines: u comes before v; rising by u, then by v
  *     A   k   b   b ..   a lines: a way, its k bookings, rising
  *
@@ -41,6 +41,8 @@
  *     P  pivot:      may be refused; once held it can't be given back.
  *     R  repeatable: is confirmed if it is asked for often enough; once held
  *                    it can't be given back.
+ *     D  both:       is confirmed if it is asked for often enough; once held
+ *                    it can be given back.
  *
  * Example, a flight with a tanker (1 range slot, 2 tanker, 3 chase aircraft,
  * or else 4 ground cameras):
@@ -208,7 +210,8 @@ uint32_t campaign_check(const uint8_t *sheet, size_t sheet_len);
 /* Letters of a reply. */
 enum campaign_letter {
     CAMPAIGN_CONFIRMED = 'Y', /* to a request: it is held now */
-    CAMPAIGN_DECLINED = 'N',  /* to a request: lost if C or P; if R ask again */
+    CAMPAIGN_DECLINED = 'N',  /* to a request: lost if C or P; R or D is requested
+                                 again */
     CAMPAIGN_RETURNED = 'G',  /* to a return: it is free now */
     CAMPAIGN_KEPT = 'K'       /* to a return: it failed, it is still held */
 };

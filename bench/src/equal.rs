@@ -54,7 +54,7 @@ fn damaged_sheets(compared: &mut Compared, sheet: &[u8], dice: &mut Dice, times:
         let at = dice.below(bytes.len());
         match dice.below(4) {
             0 => bytes.truncate(at),
-            1 => bytes[at] = *b" 0123456789BLACPR\n".get(dice.below(20)).unwrap_or(&255),
+            1 => bytes[at] = *b" 0123456789BLACPRD\n".get(dice.below(21)).unwrap_or(&255),
             2 => bytes.swap(at, (at + 4) % sheet.len()),
             _ => bytes.insert(at, b' '),
         }

@@ -93,6 +93,7 @@ fn read_bookings(lines: &mut Lines, n: u32, plan: &mut Plan) -> Result<(), Refus
             b'C' => (true, false),
             b'P' => (true, true),
             b'R' => (false, true),
+            b'D' => (false, false),
             _ => return Err(lines.refusal(FORM)),
         };
         lines.need(given == booking, NUMBER)?;

@@ -1,6 +1,6 @@
 #include "desks.h"
 
-/* So often at most a desk refuses a repeatable booking, or fails to take one back. */
+/* So often at most a desk refuses a booking that repeats (R or D), or fails to take one back (C or D). */
 enum { MOST_DELAYS = 4 };
 
 /* splitmix64 */
@@ -56,7 +56,7 @@ static bool puts_us_off(struct desks *desks, unsigned booking, bool gives_in)
 struct reply desks_answer(struct desks *desks, const struct plan *plan, unsigned booking, uint8_t code)
 {
     bool request = code == CAMPAIGN_REQUESTED;
-    bool no = puts_us_off(desks, booking, !request || plan->kind[booking] == 'R');
+    bool no = puts_us_off(desks, booking, !request || plan_repeats(plan, booking));
     desks->stubborn[booking] = no ? desks->stubborn[booking] + 1 : 0;
     uint8_t letter = request ? (no ? CAMPAIGN_DECLINED : CAMPAIGN_CONFIRMED) : (no ? CAMPAIGN_KEPT : CAMPAIGN_RETURNED);
     return (struct reply) {letter, booking};

@@ -20,7 +20,7 @@ struct run {
     unsigned confirmed[CAMPAIGN_MOST_BOOKINGS + 1];
     unsigned returned[CAMPAIGN_MOST_BOOKINGS + 1];
     unsigned long steps;  /* orders sent and replies taken */
-    unsigned long delays; /* repeatables refused, returns that failed */
+    unsigned long delays; /* refusals of what repeats, returns that failed */
 };
 
 static void say(const struct run *run, const char *format, ...)
@@ -219,7 +219,7 @@ static const char *enter_reply(struct run *run, struct reply reply)
         return "yes, it is yours";
     case CAMPAIGN_DECLINED:
         run->tally->declined++;
-        if (run->plan->kind[booking] == 'R') {
+        if (plan_repeats(run->plan, booking)) {
             run->code[booking] = CAMPAIGN_FREE;
             run->delays++;
             return "not now, ask again";

@@ -95,7 +95,7 @@ static unsigned take_number_within(struct reading *r, unsigned low, unsigned hig
 static char take_kind(struct reading *r)
 {
     int byte = take_byte(r);
-    if (byte != 'C' && byte != 'P' && byte != 'R')
+    if (byte != 'C' && byte != 'P' && byte != 'R' && byte != 'D')
         r->fault = true;
     return (char) byte;
 }
@@ -172,6 +172,11 @@ bool plan_in_way(const struct plan *plan, unsigned way, unsigned booking)
 bool plan_firm(const struct plan *plan, unsigned booking)
 {
     return plan->kind[booking] == 'P' || plan->kind[booking] == 'R';
+}
+
+bool plan_repeats(const struct plan *plan, unsigned booking)
+{
+    return plan->kind[booking] == 'R' || plan->kind[booking] == 'D';
 }
 
 void plan_write_set(FILE *out, uint64_t set)

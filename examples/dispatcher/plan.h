@@ -32,6 +32,9 @@ bool plan_in_way(const struct plan *plan, unsigned way, unsigned booking);
 /* Once held it can't be given back. */
 bool plan_firm(const struct plan *plan, unsigned booking);
 
+/* Refused, it can be asked for again, and is confirmed in the end. */
+bool plan_repeats(const struct plan *plan, unsigned booking);
+
 /* The bookings of a set, each after a space. */
 void plan_write_set(FILE *out, uint64_t set);
 

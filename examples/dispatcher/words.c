@@ -8,6 +8,7 @@ const char *words_for_kind(char kind)
     case 'C': return "returnable";
     case 'P': return "pivot";
     case 'R': return "repeatable";
+    case 'D': return "repeatable and returnable";
     default: return "of no known kind";
     }
 }

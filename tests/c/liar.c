@@ -52,5 +52,8 @@ uint32_t __wrap_campaign_reply(const uint8_t *sheet, size_t sheet_len, uint8_t *
         return packed(CAMPAIGN_ACCEPTED, booking & 0xFFFFu);
     if (lie_is("changes way too early") && letter == CAMPAIGN_DECLINED && campaign_kind_of(answer) == CAMPAIGN_ACCEPTED)
         state[0]++;
+    if (lie_is("loses what can be asked for again") && letter == CAMPAIGN_DECLINED
+        && campaign_kind_of(answer) == CAMPAIGN_ACCEPTED && state[booking] == CAMPAIGN_FREE)
+        state[booking] = CAMPAIGN_LOST;
     return answer;
 }

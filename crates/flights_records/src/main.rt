@@ -122,6 +122,8 @@ fn main() {
     round_trip(b"longest sheet", 512, 16);
     write_longest(b"record of 64", 64, b'C');
     write_longest(b"record of 65", 65, b'C');
+    write_longest(b"record with kind D", 64, b'D');
+    write_longest(b"record with kind d", 64, b'd');
     write_longest(b"record with kind X", 64, b'X');
     write_longest(b"record of 65 with kind X", 65, b'X');
     write_shorter(b"record of 64, too short", 64, b'C');

@@ -8,7 +8,7 @@ use native.Mathlib.Omega.{arith}
 use lib.ListN.{length-set}
 use lib.Seq.{getD-set-same, getD-set-other}
 use Rattle.bounded.proofs.Bools.{clash, same?}
-use Rattle.network.specs.Network.{inWay, pre, firm, exposed, returnable}
+use Rattle.network.specs.Network.{inWay, pre, firm, exposed}
 use Rattle.network.specs.declared.Network.{Network}
 use Rattle.verdict.proofs.Facts.{Passes}
 use Rattle.standing.specs.Standing.{free, requested, held, lost, returning}
@@ -29,7 +29,7 @@ pub record Fits (g : Network) (r : Run) (x v : ℕ) : Type 0 where
   -- what its kind and the current way allow
   pub shown : v ≡ lost → exposed g x ≡ true
   pub asked : v ≡ requested → inWay g (r .way) x ≡ true
-  pub going : v ≡ returning → (returnable g x ≡ true) × (inWay g (r .way) x ≡ false)
+  pub going : v ≡ returning → (firm g x ≡ false) × (inWay g (r .way) x ≡ false)
   pub firm-in : v ≡ held → firm g x ≡ true → inWay g (r .way) x ≡ true
   -- nothing is requested while something is held outside the current way or returning
   pub quiet-outside : v ≡ requested → (b : ℕ) → code r b ≡ held → inWay g (r .way) b ≡ false → ⊥

@@ -15,8 +15,8 @@ use Rattle.run.specs.Orders.{toReturn, toRequest, ending, next}
 use Rattle.run.specs.Replies.{toSwitch, settle, afterNo, reply}
 use Rattle.guarantee.specs.Answers.{pack, orderBits, place9, replyBits, checkBits}
 use Rattle.guarantee.specs.Machine.{replyTo, answer, after, machineAnswers}
-use Rattle.guarantee.specs.Flights.{Flight, outcome, link, setOf, planOf, passes, refuses, request, return, accepted, calledOff, checked, flown, flights}
+use Rattle.guarantee.specs.Flights.{Flight, outcome, link, setOf, planOf, passes, refuses, request, return, accepted, flownBy, calledOff, checked, flown, flights}
 
 pub flights-hold : map outcome flights ≡ map (λ (f : Flight). f .expected) flights
-unfolding any all seek first table member gather inserted insert kept subsetOf apart disjointFrom joinedOf throughAt throughOf closureTo closureOf ofKind joins linked directAt directOf networkOf wayOf inWay before pre firm exposed some circular gap unclosed usedBy unused sameWay repeated stays staying leadsTo settledBy safe refuge laterRefuge stranding strands check verdictNumber verdictPlace only without codeIs coded supports precedesSome ready lostIn heldFirm live liveAt firstLive code start toReturn toRequest ending next toSwitch settle afterNo reply pack orderBits place9 replyBits checkBits replyTo answer after machineAnswers outcome link setOf planOf passes refuses request return accepted calledOff checked flown flights
+unfolding any all seek first table member gather inserted insert kept subsetOf apart disjointFrom joinedOf throughAt throughOf closureTo closureOf ofKind joins linked directAt directOf networkOf wayOf inWay before pre firm exposed some circular gap unclosed usedBy unused sameWay repeated stays staying leadsTo settledBy safe refuge laterRefuge stranding strands check verdictNumber verdictPlace only without codeIs coded supports precedesSome ready lostIn heldFirm live liveAt firstLive code start toReturn toRequest ending next toSwitch settle afterNo reply pack orderBits place9 replyBits checkBits replyTo answer after machineAnswers outcome link setOf planOf passes refuses request return accepted flownBy calledOff checked flown flights
 flights-hold = refl

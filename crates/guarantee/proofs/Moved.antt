@@ -10,10 +10,9 @@ use lib.Dec.{eqb}
 use borrow.Author.Tests.{eq-eqb, ne-eqb}
 use Rattle.bounded.specs.Bounded.{one}
 use Rattle.bounded.proofs.Bools.{same?, by-cond, clash}
-use Rattle.network.specs.Network.{inWay, firm, exposed, repeatable}
+use Rattle.network.specs.Network.{inWay, firm, exposed, repeats}
 use Rattle.network.specs.declared.Network.{Network}
 use Rattle.verdict.proofs.Facts.{Passes}
-use Rattle.network.proofs.Facts.{soft}
 use Rattle.standing.specs.Standing.{free, requested, held, lost, returning}
 use Rattle.standing.specs.Ways.{firstLive}
 use Rattle.run.specs.State.{code, standing, here, put, turn}
@@ -121,7 +120,7 @@ module _ (g : Network) (ok : Passes g) (r : Run) (s : Sound g r) where
     -- an accepted reply of letter l to y
     reply-one : (l x : ℕ) → accepts x ≡ true → one (eqb l Y) + hold (code r y) ≡ one (eqb l G) + hold v → awaits (code r y) ≡ requested + awaits v
         → (firm g y ≡ true → one (eqb l G) ≡ 0)
-        → 1 + weight (inWay g (r .way) y) v ≤ weight (inWay g (r .way) y) (code r y) + 2 * one ((eqb l N && repeatable g y) || eqb l K)
+        → 1 + weight (inWay g (r .way) y) v ≤ weight (inWay g (r .way) y) (code r y) + 2 * one ((eqb l N && repeats g y) || eqb l K)
         → Moved g r (replied l (suc y)) x t
     unfolding confirmed returned ordered answered event again
     reply-one l x e h o fi le =
@@ -168,7 +167,7 @@ module _ (g : Network) (ok : Passes g) (r : Run) (s : Sound g r) where
 
   -- to a requested booking
   requested-moved : (l y v : ℕ) → (h : y < g .n) (m : code r y ≡ requested) (d1 : v ≤ lost) (d2 : v ≢ requested) (z : v ≡ lost → exposed g y ≡ true) → Sound g (settle g (put r y v))
-      → one (eqb l Y) ≡ hold v → one (eqb l G) ≡ 0 → awaits v ≡ 0 → 1 + weight true v ≤ 3 + 2 * one ((eqb l N && repeatable g y) || eqb l K)
+      → one (eqb l Y) ≡ hold v → one (eqb l G) ≡ 0 → awaits v ≡ 0 → 1 + weight true v ≤ 3 + 2 * one ((eqb l N && repeats g y) || eqb l K)
       → Moved g r (replied l (suc y)) (pack 6 0 (suc y)) (settle g (put r y v))
   requested-moved l y v h m d1 d2 z st is-y not-g aw le =
       let f = requested-fits g ok r s y h v m d1 d2 z in
@@ -178,15 +177,15 @@ module _ (g : Network) (ok : Passes g) (r : Run) (s : Sound g r) where
 
   -- to a returning booking
   returning-moved : (l y v : ℕ) → (h : y < g .n) (m : code r y ≡ returning) (d1 : v ≤ held) (d2 : v ≢ requested) → Sound g (put r y v)
-      → one (eqb l Y) ≡ 0 → 1 ≡ one (eqb l G) + hold v → awaits v ≡ 0 → 1 + weight false v ≤ 1 + 2 * one ((eqb l N && repeatable g y) || eqb l K)
+      → one (eqb l Y) ≡ 0 → 1 ≡ one (eqb l G) + hold v → awaits v ≡ 0 → 1 + weight false v ≤ 1 + 2 * one ((eqb l N && repeats g y) || eqb l K)
       → Moved g r (replied l (suc y)) (pack 6 0 (suc y)) (put r y v)
   returning-moved l y v h m d1 d2 st not-y is-g aw le =
       let k = s .core .going y m in
       reply-one y v (returning-fits g ok r s y h v m d1 d2) (put r y v) st (λ b. refl) (le-refl _)
-      l (pack 6 0 (suc y)) (accepted y h) (rw m (omega arith)) (rw m (omega arith)) (λ q. clash (firm g y) q (soft g y (k .0))) (rw (k .1, m) le)
+      l (pack 6 0 (suc y)) (accepted y h) (rw m (omega arith)) (rw m (omega arith)) (λ q. clash (firm g y) q (k .0)) (rw (k .1, m) le)
 
   reply-moved : (l y : ℕ) {t : Replied} → ReplyCase g r l y t → Moved g r (replied l (suc y)) (replyBits (suc y) (t .taken)) (t .run)
-  unfolding replyBits repeatable
+  unfolding replyBits repeats
   reply-moved l y misfit = reply-idle l (suc y) _ (refused-9 (suc y))
   reply-moved l y (yes′ h m e) =
       rw e (requested-moved Y y held h m (omega arith) (omega arith) (λ z. absurd (omega arith)) (reply-sound g ok r s l y (yes′ h m e)) refl refl refl (omega arith))

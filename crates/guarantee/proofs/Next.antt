@@ -12,7 +12,7 @@ use Rattle.bounded.proofs.Tests.{any-i}
 use Rattle.bounded.proofs.Extreme.{extreme}
 use Rattle.sets.specs.Sets.{some}
 use Rattle.sets.proofs.Facts.{subset-e, subset-i, both-i, either-e, either-l, either-r, without-i}
-use Rattle.network.specs.Network.{inWay, before, pre, firm, returnable}
+use Rattle.network.specs.Network.{inWay, before, pre, firm}
 use Rattle.network.specs.declared.Network.{Network}
 use Rattle.verdict.proofs.Facts.{Passes}
 use Rattle.standing.specs.Standing.{free, requested, held, lost, returning, coded}
@@ -128,7 +128,7 @@ module _ (g : Network) (ok : Passes g) (r : Run) (s : Sound g r) where
       }
 
   pub return-fits : (x : ℕ) → lostIn (standing g r) (here g r) ≡ false → toReturn g (standing g r) (here g r) x ≡ true → Fits g r x returning
-  unfolding c′ returnable
+  unfolding c′
   return-fits x u e =
       let t = return-facts g r x e in
       let m : code r x ≡ held = t .is-held in
@@ -151,7 +151,7 @@ module _ (g : Network) (ok : Passes g) (r : Run) (s : Sound g r) where
             absurd (omega (arith, c′ .codes w));
         shown = λ z. absurd (omega arith);
         asked = λ z. absurd (omega arith);
-        going = λ z. (ok .shape .kinds x (t .booking) soft & not-i _ soft, t .outside);
+        going = λ z. (soft, t .outside);
         quiet-outside = λ z. absurd (omega arith);
         quiet-returning = λ z. absurd (omega arith);
         loose = λ z. absurd (omega arith);

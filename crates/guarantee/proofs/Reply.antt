@@ -9,7 +9,6 @@ use Rattle.bounded.proofs.Bools.{clash, same?}
 use Rattle.network.specs.Network.{inWay, firm, exposed}
 use Rattle.network.specs.declared.Network.{Network}
 use Rattle.verdict.proofs.Facts.{Passes}
-use Rattle.network.proofs.Facts.{soft}
 use Rattle.standing.specs.Standing.{free, requested, held, lost, returning}
 use Rattle.run.specs.State.{code, put}
 use Rattle.run.specs.Replies.{settle}
@@ -73,7 +72,7 @@ module _ (g : Network) (ok : Passes g) (r : Run) (s : Sound g r) (b : ℕ) (h : 
         loose = λ e o q n. c .quiet-returning b q m n;
         alone = λ e. absurd (omega arith);
         keeps = λ e. absurd (omega arith);
-        firm-in = λ e z. clash (firm g b) z (soft g b (c .going b m .0));
+        firm-in = λ e z. clash (firm g b) z (c .going b m .0);
       }
 
   returning-sound : code r b ≡ returning → v ≤ held → v ≢ requested → Sound g (put r b v)

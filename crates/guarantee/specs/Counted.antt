@@ -6,7 +6,7 @@ use Prim.Native.Nat.{ℕ, suc, pred, _+_}
 use lib.Dec.{eqb}
 use Rattle.bounded.specs.Bounded.{one, sum}
 use Rattle.sets.specs.Sets.{sizeOf}
-use Rattle.network.specs.Network.{wayOf, repeatable}
+use Rattle.network.specs.Network.{wayOf, repeats}
 use Rattle.network.specs.declared.Network.{Network}
 use Rattle.run.specs.Replies.{Y, N, G, K}
 use Rattle.guarantee.specs.Answers.{kindOf, placeOf}
@@ -49,10 +49,10 @@ unfoldable pub event : Asked → ℕ → ℕ
 event nextOrder x = one (sends x)
 event (replied l n) x = one (accepts x)
 
--- q: an accepted N to a repeatable booking, or an accepted K
+-- q: an accepted N to a booking that repeats (R or D), or an accepted K
 unfoldable pub again : Network → Asked → ℕ → ℕ
 again g nextOrder x = 0
-again g (replied l n) x = one (accepts x && ((eqb l N && repeatable g (pred n)) || eqb l K))
+again g (replied l n) x = one (accepts x && ((eqb l N && repeats g (pred n)) || eqb l K))
 
 -- a counter over the calls and their answers
 unfoldable pub tally : (Asked → ℕ → ℕ) → List Asked → List ℕ → ℕ

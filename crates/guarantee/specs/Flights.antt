@@ -4,6 +4,7 @@ use mathlib.Core.List.{List, [], _∷_, map}
 use Prim.Native.Nat.{ℕ, pred}
 use lib.ListN.{length}
 use Rattle.sets.specs.Sets.{insert}
+use Rattle.plan.specs.Limits.{C, P, R, D}
 use Rattle.plan.specs.declared.Plan.{Plan}
 use Rattle.network.specs.FromPlan.{networkOf}
 use Rattle.verdict.specs.Check.{check}
@@ -39,15 +40,6 @@ unfoldable pub planOf : List ℕ → List Link → List (List ℕ) → Plan
 planOf ks ls ws =
     record { n = length ks; m = length ls; a = length ws; kind = ks; from = map (λ l. l .from) ls; to = map (λ l. l .to) ls; way = map setOf ws }
 
-abbrev pub C : ℕ
-C = 67
-
-abbrev pub P : ℕ
-P = 80
-
-abbrev pub R : ℕ
-R = 82
-
 -- ---- answers
 
 unfoldable pub passes : ℕ
@@ -64,6 +56,9 @@ return b = pack 2 0 b
 
 unfoldable pub accepted : ℕ → ℕ
 accepted b = pack 6 0 b
+
+unfoldable pub flownBy : ℕ → ℕ
+flownBy w = pack 4 0 w
 
 unfoldable pub calledOff : ℕ
 calledOff = pack 5 0 0
@@ -87,6 +82,9 @@ flights =
     -- a pivot and a repeatable, and the repeatable alone as second way; then as first
     ∷ checked (P ∷ R ∷ []) [] ((1 ∷ 2 ∷ []) ∷ (2 ∷ []) ∷ []) passes
     ∷ checked (P ∷ R ∷ []) [] ((2 ∷ []) ∷ (1 ∷ 2 ∷ []) ∷ []) (refuses 8 513)
+    -- a pivot and a repeatable in the only way; one that can be given back as well, in its place
+    ∷ checked (P ∷ R ∷ []) [] ((1 ∷ 2 ∷ []) ∷ []) (refuses 8 257)
+    ∷ checked (P ∷ D ∷ []) [] ((1 ∷ 2 ∷ []) ∷ []) passes
     -- a circle
     ∷ checked (C ∷ C ∷ []) (link 1 2 ∷ link 2 1 ∷ []) ((1 ∷ 2 ∷ []) ∷ []) (refuses 4 1)
     -- a way without what precedes its booking
@@ -100,4 +98,12 @@ flights =
     ∷ flown (C ∷ C ∷ []) ((1 ∷ 2 ∷ []) ∷ [])
     (nextOrder ∷ nextOrder ∷ replied Y 1 ∷ replied N 2 ∷ nextOrder ∷ replied K 1 ∷ nextOrder ∷ replied G 1 ∷ nextOrder ∷ [])
     (request 1 ∷ request 2 ∷ accepted 1 ∷ accepted 2 ∷ return 1 ∷ accepted 1 ∷ return 1 ∷ accepted 1 ∷ calledOff ∷ [])
+    -- the pivot and the D: refused, the D is requested again and held
+    ∷ flown (P ∷ D ∷ []) ((1 ∷ 2 ∷ []) ∷ [])
+    (nextOrder ∷ nextOrder ∷ replied N 2 ∷ replied Y 1 ∷ nextOrder ∷ replied Y 2 ∷ nextOrder ∷ [])
+    (request 1 ∷ request 2 ∷ accepted 2 ∷ accepted 1 ∷ request 2 ∷ accepted 2 ∷ flownBy 1 ∷ [])
+    -- held, it goes back where the pivot is refused
+    ∷ flown (P ∷ D ∷ []) ((1 ∷ 2 ∷ []) ∷ [])
+    (nextOrder ∷ nextOrder ∷ replied Y 2 ∷ replied N 1 ∷ nextOrder ∷ replied G 2 ∷ nextOrder ∷ [])
+    (request 1 ∷ request 2 ∷ accepted 2 ∷ accepted 1 ∷ return 2 ∷ accepted 2 ∷ calledOff ∷ [])
     ∷ []

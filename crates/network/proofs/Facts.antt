@@ -6,10 +6,9 @@ use mathlib.Core.Bool.{true, false}
 use Prim.Native.Nat.{ℕ, zero, suc, _-_, _≤_, _<_}
 use native.Mathlib.Omega.{arith}
 use lib.ListN.{getD}
-use borrow.Author.Tests.{not-true}
-use Rattle.bounded.proofs.Bools.{clash, and-r}
+use Rattle.bounded.proofs.Bools.{clash}
 use Rattle.sets.proofs.Members.{member-zero}
-use Rattle.network.specs.Network.{wayOf, inWay, pre, firm, exposed, returnable}
+use Rattle.network.specs.Network.{wayOf, inWay, pre}
 use Rattle.network.specs.declared.Network.{Network}
 
 -- what the plan and the closure of its links give: limits kept, and a transitive precedence among its bookings
@@ -19,7 +18,6 @@ pub record Shape (g : Network) : Type 0 where
   pub few : g .a ≤ 16
   pub pre-n : (u v : ℕ) → pre g u v ≡ true → (u < g .n) × (v < g .n)
   pub way-n : (w b : ℕ) → w ≤ g .a → inWay g w b ≡ true → b < g .n
-  pub kinds : (b : ℕ) → b < g .n → firm g b ≡ false → exposed g b ≡ true
   pub transitive : (u v w : ℕ) → pre g u v ≡ true → pre g v w ≡ true → pre g u w ≡ true
 
 -- no booking is in way 0
@@ -35,8 +33,3 @@ pub way-entry : (g : Network) (w : ℕ) → w ≢ 0 → getD (g .way) (w - 1) 0 
 unfolding wayOf
 way-entry g zero d = absurd (d refl)
 way-entry g (suc k) d = ap (λ (i : ℕ). getD (g .way) i 0) (omega arith)
-
--- what may be returned is not firm
-pub soft : (g : Network) (b : ℕ) → returnable g b ≡ true → firm g b ≡ false
-unfolding returnable
-soft g b e = not-true (firm g b) (and-r (exposed g b) _ e)

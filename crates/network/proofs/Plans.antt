@@ -2,26 +2,25 @@
 -- Assumes nothing.
 use mathlib.Core.Path.{_≡_, refl, sym, ap, _∙_}
 use mathlib.Core.Logic.{inl, inr}
-use mathlib.Core.Bool.{true, false}
+use mathlib.Core.Bool.{true}
 use mathlib.Core.List.{List}
 use Prim.Native.Nat.{ℕ, zero, suc, _≤_, _<_}
 use native.Mathlib.Omega.{arith}
 use lib.Dec.{eqb}
 use lib.ListN.{getD}
-use borrow.Author.Tests.{eqb-true, eq-eqb}
-use Rattle.bounded.proofs.Bools.{clash, split?, and-l, and-r, or-l, or-r}
+use borrow.Author.Tests.{eqb-true}
+use Rattle.bounded.proofs.Bools.{clash, split?, and-l, and-r}
 use Rattle.bounded.proofs.Tests.{any-e}
 use Rattle.bounded.proofs.Lists.{table-at}
 use Rattle.sets.specs.Sets.{member}
 use Rattle.sets.proofs.Members.{member-past}
-use Rattle.sets.proofs.Gather.{member-gather}
 use Rattle.sets.proofs.Facts.{gather-e}
 use Rattle.precedence.specs.Precedence as Chains
 use Rattle.precedence.proofs.Chains.{precedes-trans, closure-chain, chain-closure, precedes-below}
 use Rattle.plan.specs.declared.Plan.{Plan}
 use Rattle.plan.proofs.Valid.{Valid}
-use Rattle.network.specs.FromPlan.{ofKind, firmAt, exposedAt, joins, linked, directAt, directOf, networkOf, Ends}
-use Rattle.network.specs.Network.{wayOf, inWay, before, pre, firm, exposed}
+use Rattle.network.specs.FromPlan.{joins, linked, directAt, directOf, networkOf, Ends}
+use Rattle.network.specs.Network.{wayOf, inWay, before, pre}
 use Rattle.network.proofs.Facts.{Shape, some-way}
 
 pub valid-fits : (p : Plan) → Valid p → (p .n ≤ 64) × Ends (p .from) (p .to) (p .m)
@@ -58,17 +57,6 @@ module _ (p : Plan) (v : Valid p) where
     | inr l ↦ clash (member (getD (p .way) k 0) b) e (member-past (getD (p .way) k 0) (p .n) b (v .sets k h) l)
   ]
 
-  -- what is not firm is exposed: a kind is C, P or R
-  kind-known : (b : ℕ) → b < p .n → firm (networkOf p) b ≡ false → exposed (networkOf p) b ≡ true
-  unfolding networkOf firm exposed ofKind
-  kind-known b h e = member-gather (exposedAt (p .kind)) (p .n) b h ∙ elim (v .kinds b h) [
-    | inl z ↦ or-l _ _ (eq-eqb _ _ z)
-    | inr y ↦ elim y [
-      | inl z ↦ or-r (eqb (getD (p .kind) b 0) 67) _ (eq-eqb _ _ z)
-      | inr z ↦ clash (firmAt (p .kind) b) (or-r (eqb (getD (p .kind) b 0) 80) _ (eq-eqb _ _ z)) (sym (member-gather (firmAt (p .kind)) (p .n) b h) ∙ e)
-    ]
-  ]
-
   pub shape : Shape (networkOf p)
   unfolding networkOf pre before Chains.inSet direct
   shape =
@@ -78,6 +66,5 @@ module _ (p : Plan) (v : Valid p) where
         few = v .counts .ways;
         pre-n = λ u w e. precedes-below direct (p .n) low (closure-chain direct u w e);
         way-n = way-low;
-        kinds = kind-known;
         transitive = λ u w x e f. chain-closure direct u x (precedes-trans (closure-chain direct u w e) (closure-chain direct w x f));
       }

@@ -8,22 +8,13 @@ use lib.ListN.{getD}
 use Rattle.bounded.specs.Bounded.{any, table}
 use Rattle.sets.specs.Sets.{gather}
 use Rattle.precedence.specs.Precedence.{closureOf}
+use Rattle.plan.specs.Limits.{C, P, R, D}
 use Rattle.plan.specs.declared.Plan.{Plan}
 use Rattle.network.specs.declared.Network.{Network}
 
 -- booking b is of one of two kinds
 unfoldable pub ofKind : ℕ → ℕ → List ℕ → ℕ → Bool
 ofKind x y ks b = eqb (getD ks b 0) x || eqb (getD ks b 0) y
-
--- the letters: returnable, pivot, repeatable
-abbrev pub C : ℕ
-C = 67
-
-abbrev pub P : ℕ
-P = 80
-
-abbrev pub R : ℕ
-R = 82
 
 -- firm kinds are P and R
 abbrev pub firmAt : List ℕ → ℕ → Bool
@@ -32,6 +23,14 @@ firmAt = ofKind P R
 -- exposed kinds are C and P
 abbrev pub exposedAt : List ℕ → ℕ → Bool
 exposedAt = ofKind C P
+
+-- kinds that can be given back are C and D
+abbrev pub givenBackAt : List ℕ → ℕ → Bool
+givenBackAt = ofKind C D
+
+-- kinds that are requested again after a refusal are R and D
+abbrev pub repeatsAt : List ℕ → ℕ → Bool
+repeatsAt = ofKind R D
 
 -- link i says that booking u comes before booking v
 unfoldable pub joins : List ℕ → List ℕ → ℕ → ℕ → ℕ → Bool

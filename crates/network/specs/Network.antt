@@ -1,6 +1,6 @@
 -- How the rules read a network. A booking is an index from 0; a way is a number from 1, and 0 is no way.
 -- Assumes nothing.
-use mathlib.Core.Bool.{Bool, not, _&&_}
+use mathlib.Core.Bool.{Bool, not}
 use Prim.Native.Nat.{ℕ, zero, suc}
 use lib.ListN.{getD}
 use Rattle.sets.specs.Sets.{member}
@@ -22,20 +22,16 @@ before g v = getD (g .before) v 0
 unfoldable pub pre : Network → ℕ → ℕ → Bool
 pre g u v = member (before g v) u
 
--- ---- the three kinds: C is exposed alone, P is both, R is firm alone
+-- ---- the four kinds: C is exposed alone, P is both, R is firm alone, D is neither
 
--- a pivot or a repeatable: once held it stays
+-- P or R: once held it stays. All other bookings, C and D, can be given back
 unfoldable pub firm : Network → ℕ → Bool
 firm g b = member (g .firm) b
 
--- a returnable or a pivot: it can be refused for good
+-- C or P: it can be refused for good
 unfoldable pub exposed : Network → ℕ → Bool
 exposed g b = member (g .exposed) b
 
--- C: it can be given back
-unfoldable pub returnable : Network → ℕ → Bool
-returnable g b = exposed g b && not (firm g b)
-
--- R: a refusal leaves it to be requested again
-unfoldable pub repeatable : Network → ℕ → Bool
-repeatable g b = not (exposed g b)
+-- R or D: a refusal leaves it to be requested again
+unfoldable pub repeats : Network → ℕ → Bool
+repeats g b = not (exposed g b)

@@ -35,7 +35,7 @@ fn is_either(k: u8, x: u8, y: u8) -> bool
     k == y
 }
 
-// The bookings below n by their kinds: firm are P and R, exposed C and P.
+// The bookings below n by their kinds: firm are P and R, exposed C and P, and D is neither.
 fn kinds_of(bits: &[u64; 64], kind: &[u8; 64], n: usize) -> Kinds
     requires { ⌜ (now bits ≡ table alone 64) × (n ≤ 64) ⌝ }
     ensures { λ r. ⌜ (r .firm ≡ gather (firmAt (now (kind .entry))) n) × (r .exposed ≡ gather (exposedAt (now (kind .entry))) n) ⌝ }

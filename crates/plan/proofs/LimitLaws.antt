@@ -8,7 +8,7 @@ use native.Mathlib.Omega.{arith}
 use lib.Dec.{eqb, leb, ltb}
 use borrow.Author.Tests.{leb-true, le-leb, eqb-true, ltb-true}
 use Rattle.bounded.proofs.Bools.{and-l, and-r, _&_, or-cases, went}
-use Rattle.plan.specs.Limits.{mostBookings, mostLinks, mostWays, isKind, within, counted, limits, rises, inSequence}
+use Rattle.plan.specs.Limits.{mostBookings, mostLinks, mostWays, C, P, R, D, isKind, within, counted, limits, rises, inSequence}
 
 -- ---- from lo to hi
 
@@ -67,11 +67,15 @@ limited-i n m a l =
 
 -- ---- kinds
 
-pub kind-cases : (k : ℕ) → isKind k ≡ true → (k ≡ 67) ⊎ ((k ≡ 80) ⊎ (k ≡ 82))
+-- what holds of each letter holds of every kind
+pub each-kind : (T : ℕ → Type 0) → T C → T P → T R → T D → (k : ℕ) → isKind k ≡ true → T k
 unfolding isKind
-kind-cases k e = elim (or-cases (eqb k 67) _ e) [
-  | inl c ↦ inl (eqb-true k 67 c)
-  | inr q ↦ elim (or-cases (eqb k 80) _ q) [ inl p ↦ inr (inl (eqb-true k 80 p)) | inr r ↦ inr (inr (eqb-true k 82 r)) ]
+each-kind T c p r d k e = elim (or-cases (eqb k C) _ e) [
+  | inl z ↦ rw (eqb-true k C z) c
+  | inr x ↦ elim (or-cases (eqb k P) _ x) [
+    | inl z ↦ rw (eqb-true k P z) p
+    | inr y ↦ elim (or-cases (eqb k R) _ y) [ inl z ↦ rw (eqb-true k R z) r | inr z ↦ rw (eqb-true k D z) d ]
+  ]
 ]
 
 -- ---- links

@@ -14,17 +14,17 @@ use Rattle.bounded.proofs.Bools.{clash, and-l, and-r, _&_}
 use Rattle.bounded.proofs.Tests.{all-i, all-e}
 use Rattle.sets.specs.Sets.{sizeOf}
 use Rattle.sets.proofs.Gather.{size-le}
-use Rattle.plan.specs.Limits.{limits}
+use Rattle.plan.specs.Limits.{isKind, limits}
 use Rattle.plan.specs.Record.{kindAt, linkAt, countAt, withinAt, countsFit, entriesFit, recordOf}
 use Rattle.plan.specs.declared.Plan.{Plan}
 use Rattle.plan.specs.declared.Judgement.the-variants.{Fine, Count, Sequence}
 use Rattle.plan.specs.declared.Judgement.{Judgement}
-use Rattle.plan.proofs.LimitLaws.{Limited, limited-i, within-lo, within-i, kind-cases, Sequenced, sequenced}
+use Rattle.plan.proofs.LimitLaws.{Limited, limited-i, within-lo, within-i, Sequenced, sequenced}
 use Rattle.plan.proofs.RecordLaws.{fit-limited}
 
 pub record Valid (p : Plan) : Type 0 where
   pub counts : Limited (p .n) (p .m) (p .a)
-  pub kinds : (b : ℕ) → b < p .n → (getD (p .kind) b 0 ≡ 67) ⊎ ((getD (p .kind) b 0 ≡ 80) ⊎ (getD (p .kind) b 0 ≡ 82))
+  pub kinds : (b : ℕ) → b < p .n → isKind (getD (p .kind) b 0) ≡ true
   pub starts : (i : ℕ) → i < p .m → (1 ≤ getD (p .from) i 0) × (getD (p .from) i 0 ≤ p .n)
   pub ends : (i : ℕ) → i < p .m → (1 ≤ getD (p .to) i 0) × (getD (p .to) i 0 ≤ p .n)
   pub rising : (i : ℕ) → i + 1 < p .m
@@ -79,7 +79,7 @@ module _ (p : Plan) (c : countsFit p ≡ true) (e : entriesFit p ≡ true) where
   unfolding kindAt withinAt countAt
   facts = record {
     counts = fit-limited p c;
-    kinds = λ b h. kind-cases (getD (p .kind) b 0) (kind-fits p e b h);
+    kinds = kind-fits p e;
     starts = λ i h. link-fact i h .start;
     ends = λ i h. link-fact i h .end;
     rising = λ i h. rw add-one (link-fact (suc i) (omega arith) .rising);

@@ -15,9 +15,21 @@ mostLinks = 512
 abbrev pub mostWays : ℕ
 mostWays = 16
 
--- the letter of a kind: C is returnable, P is a pivot, R is repeatable
+-- the letters of the kinds: returnable, pivot, repeatable, and both repeatable and returnable
+abbrev pub C : ℕ
+C = 67
+
+abbrev pub P : ℕ
+P = 80
+
+abbrev pub R : ℕ
+R = 82
+
+abbrev pub D : ℕ
+D = 68
+
 unfoldable pub isKind : ℕ → Bool
-isKind k = eqb k 67 || (eqb k 80 || eqb k 82)
+isKind k = eqb k C || (eqb k P || (eqb k R || eqb k D))
 
 -- x is one of lo, lo + 1, .. hi
 unfoldable pub within : ℕ → ℕ → ℕ → Bool

@@ -81,7 +81,10 @@ pub fn known_kind(k: u8) -> bool
     if k == b'P' {
         return true;
     }
-    k == b'R'
+    if k == b'R' {
+        return true;
+    }
+    k == b'D'
 }
 
 // Whether lo <= x <= hi.

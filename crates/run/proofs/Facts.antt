@@ -10,7 +10,7 @@ use borrow.Author.Tests.{not-true}
 use Rattle.bounded.proofs.Bools.{clash, off, split?, and-l, and-r, _&_, not-i}
 use Rattle.sets.specs.Sets.{member, some}
 use Rattle.sets.proofs.Facts.{subset-e, subset-i, meet-i, meet-e, both-i, both-e}
-use Rattle.network.specs.Network.{wayOf, inWay, pre, firm, exposed, returnable}
+use Rattle.network.specs.Network.{wayOf, inWay, pre, firm, exposed}
 use Rattle.network.specs.declared.Network.{Network}
 use Rattle.standing.specs.Standing.{free, requested, held, lost, returning, coded}
 use Rattle.standing.specs.Ways.{lostIn, heldFirm, live, liveAt}
@@ -72,10 +72,10 @@ pub record Core (g : Network) (r : Run) : Type 0 where
   pub past : Past g r
   -- a requested, held or returning booking, and a lost one in the current way, has all predecessors held
   pub preds : (u v : ℕ) → code r v ≢ free → (code r v ≡ lost → inWay g (r .way) v ≡ true) → pre g u v ≡ true → code r u ≡ held
-  -- lost ones are exposed, requested ones in the current way, returning ones C and outside it, held firm ones in it
+  -- lost ones are exposed, requested ones in the current way, returning ones not firm and outside it, held firm ones in it
   pub shown : (b : ℕ) → code r b ≡ lost → exposed g b ≡ true
   pub asked : (b : ℕ) → code r b ≡ requested → inWay g (r .way) b ≡ true
-  pub going : (b : ℕ) → code r b ≡ returning → (returnable g b ≡ true) × (inWay g (r .way) b ≡ false)
+  pub going : (b : ℕ) → code r b ≡ returning → (firm g b ≡ false) × (inWay g (r .way) b ≡ false)
   pub firm-in : (b : ℕ) → code r b ≡ held → firm g b ≡ true → inWay g (r .way) b ≡ true
   -- nothing is requested while something is held outside the current way or returning
   pub quiet-outside : (b q : ℕ) → code r b ≡ held → inWay g (r .way) b ≡ false → code r q ≢ requested

@@ -12,9 +12,9 @@ use borrow.Author.Tests.{leb-true, le-leb, not-true}
 use Rattle.bounded.proofs.Bools.{clash, same?, split?, and-l, and-r, _&_, or-cases, or-l, or-r, not-i, off, imp-e, imp-i}
 use Rattle.bounded.proofs.Tests.{all-i, all-e}
 use Rattle.sets.specs.Sets.{member, without, subsetOf, some}
-use Rattle.sets.proofs.Facts.{subset-e, subset-i, some-i, some-member, both-i, both-e, either-e, either-l, either-r, without-i, without-e}
+use Rattle.sets.proofs.Facts.{subset-e, subset-i, apart-e, apart-i, neither-e, neither-i, some-i, some-member, both-i, both-e, either-e, either-l, either-r, without-i, without-e}
 use Rattle.sets.proofs.Gather.{gather-lt}
-use Rattle.network.specs.Network.{inWay, pre, firm, exposed, returnable}
+use Rattle.network.specs.Network.{inWay, pre, firm, exposed}
 use Rattle.network.specs.declared.Network.{Network}
 use Rattle.network.proofs.Facts.{Shape}
 use Rattle.standing.specs.Standing.{free, requested, held, lost, returning}
@@ -68,7 +68,7 @@ module _ (g : Network) (sh : Shape g) (r : Run) (s : Sound g r) where
   ]
 
   pub sound-i : sound g r ≡ true
-  unfolding sound codesKnown codeKnown wayKnown restZero zeroPast allFounded lostExposed requestedInside returningOutside quiet earlierDead passedOver firmInside lostPending inWay firm exposed returnable c
+  unfolding sound codesKnown codeKnown wayKnown restZero zeroPast allFounded lostExposed requestedInside returningOutside quiet earlierDead passedOver firmInside lostPending inWay firm exposed c
   sound-i =
       all-i (codeKnown r) 64 (λ b h. le-leb _ _ (c .codes b))
       & le-leb _ _ (c .way)
@@ -76,10 +76,8 @@ module _ (g : Network) (sh : Shape g) (r : Run) (s : Sound g r) where
       & subset-i (preceding g (active g r)) (standing g r .held) (based (active g r) (λ v m. let a = active-e v m in (a .0, λ z. absurd (a .1 z))))
       & subset-i (standing g r .lost) (g .exposed) (λ b h m. c .shown b (coded-e g r lost b m .1))
       & subset-i (standing g r .requested) (here g r) (λ b h m. c .asked b (coded-e g r requested b m .1))
-      & subset-i (standing g r .returning) (without (without (g .exposed) (g .firm)) (here g r)) (λ b h m.
-      let t = c .going b (coded-e g r returning b m .1) in
-      without-i (without (g .exposed) (g .firm)) (here g r) b h
-      (without-i (g .exposed) (g .firm) b h (and-l (member (g .exposed) b) _ (t .0)) (not-true _ (and-r (member (g .exposed) b) _ (t .0)))) (t .1))
+      & apart-i (standing g r .returning) (bitOr (g .firm) (here g r)) (λ b h m.
+      let t = c .going b (coded-e g r returning b m .1) in neither-i (g .firm) (here g r) b (t .0) (t .1))
       & imp-i _ _ (λ e. not-i _ (off (some (standing g r .requested)) (λ z. let q = some-coded g r requested z in leaves (q .0) e (q .2))))
       & all-i (passedOver g (standing g r)) (waysBefore g (r .way)) (λ k h. not-i _ (c .earlier k h))
       & subset-i (heldFirm g (standing g r)) (here g r) (λ b h m. let t = firm-e g r b m in c .firm-in b (t .0) (t .1))
@@ -204,7 +202,7 @@ module _ (g : Network) (sh : Shape g) (r : Run) (size : length (r .code) ≡ 64)
   quiet-f q e m = none-coded g r requested (not-true _ (imp-e (some (without (standing g r .held) (here g r)) || some (standing g r .returning)) _ (t .quiets) e)) q (in-n q (omega arith)) m
 
   sentences-sound : Sound g r
-  unfolding wayKnown lostExposed requestedInside returningOutside earlierDead passedOver firmInside lostPending inWay firm exposed returnable
+  unfolding wayKnown lostExposed requestedInside returningOutside earlierDead passedOver firmInside lostPending inWay firm exposed
   sentences-sound =
       record {
         core = record {
@@ -217,10 +215,7 @@ module _ (g : Network) (sh : Shape g) (r : Run) (size : length (r .code) ≡ 64)
           asked = λ b m. let h = in-n b (omega arith) in subset-e (standing g r .requested) (here g r) b (t .requests) (low b h) (coded-i g r requested b h m);
           going = λ b m.
               let h = in-n b (omega arith) in
-              let k = without-e (without (g .exposed) (g .firm)) (here g r) b
-              (subset-e (standing g r .returning) (without (without (g .exposed) (g .firm)) (here g r)) b (t .returns) (low b h) (coded-i g r returning b h m)) in
-              let e = without-e (g .exposed) (g .firm) b (k .1) in
-              (e .1 & not-i _ (e .2), k .2);
+              neither-e (g .firm) (here g r) b (apart-e (standing g r .returning) (bitOr (g .firm) (here g r)) b (t .returns) (low b h) (coded-i g r returning b h m));
           quiet-outside = λ b q m o. let h = in-n b (omega arith) in
               quiet-f q (or-l (some (without (standing g r .held) (here g r))) _
               (some-i (without (standing g r .held) (here g r)) b (without-i (standing g r .held) (here g r) b (low b h) (coded-i g r held b h m) o)));

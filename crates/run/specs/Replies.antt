@@ -34,7 +34,7 @@ toSwitch s way = not (some (s .requested)) && lostIn s way
 unfoldable pub settle : Network → Run → Run
 settle g r = cond (toSwitch (standing g r) (here g r)) (turn r (firstLive g (standing g r))) r
 
--- the code of a refused booking: lost if exposed, free if repeatable
+-- the code of a refused booking: lost if exposed, else free, so that it is requested again
 unfoldable pub afterNo : Network → ℕ → ℕ
 afterNo g b = cond (exposed g b) lost free
 

@@ -5,7 +5,7 @@ use Prim.Native.Nat.{ℕ, zero, suc}
 use lib.Dec.{leb}
 use lib.Bits.{bitAnd, bitOr}
 use Rattle.bounded.specs.Bounded.{imp, all}
-use Rattle.sets.specs.Sets.{without, subsetOf, some}
+use Rattle.sets.specs.Sets.{without, subsetOf, disjointFrom, some}
 use Rattle.network.specs.declared.Network.{Network}
 use Rattle.standing.specs.Standing.{free, returning}
 use Rattle.standing.specs.Ways.{preceding, lostIn, heldFirm, liveAt}
@@ -43,9 +43,9 @@ lostExposed g s = subsetOf (s .lost) (g .exposed)
 unfoldable pub requestedInside : Standing → ℕ → Bool
 requestedInside s way = subsetOf (s .requested) way
 
--- returning ones are C, so exposed and not firm, and outside it
+-- returning ones are C or D, so not firm, and outside it
 unfoldable pub returningOutside : Network → Standing → ℕ → Bool
-returningOutside g s way = subsetOf (s .returning) (without (without (g .exposed) (g .firm)) way)
+returningOutside g s way = disjointFrom (s .returning) (bitOr (g .firm) way)
 
 -- a held booking outside the current way, or a returning one, means none is requested
 unfoldable pub quiet : Standing → ℕ → Bool

@@ -81,7 +81,7 @@ fn to_request(g: Network, before: &[u64; 64], s: Standing, way: u64) -> usize
     g.n
 }
 
-// The code of a refused booking: lost if exposed, free if repeatable.
+// The code of a refused booking: lost if exposed, else free, so that it is requested again.
 fn after_no(g: Network, b: usize) -> u8
     requires { ⌜ b < 64 ⌝ }
     ensures { λ c. ⌜ c ≡ afterNo g b ⌝ }

@@ -49,6 +49,13 @@ meet-e a b e =
     let m = not-false (member a (t .0) && member b (t .0)) (t .2) in
     (t .0, t .1, and-l (member a (t .0)) _ m, and-r (member a (t .0)) _ m)
 
+pub apart-i : (a b : ℕ) → ((i : ℕ) → i < 64 → member a i ≡ true → member b i ≡ false) → disjointFrom a b ≡ true
+unfolding disjointFrom apart
+apart-i a b f = all-i (apart a b) 64 (λ i h. not-i _ (off (member a i && member b i) (λ e. clash (member b i) (and-r (member a i) _ e) (f i h (and-l (member a i) _ e)))))
+
+pub apart-e : (a b i : ℕ) → disjointFrom a b ≡ true → i < 64 → member a i ≡ true → member b i ≡ false
+apart-e a b i e h p = off (member b i) (λ q. clash (disjointFrom a b) e (not-true _ (meet-i a b i h p q)))
+
 -- ---- members of a set made from two
 
 module _ (a b i : ℕ) where
@@ -66,6 +73,12 @@ module _ (a b i : ℕ) where
 
   pub either-r : member b i ≡ true → member (bitOr a b) i ≡ true
   either-r p = member-or a b i ∙ or-r (member a i) (member b i) p
+
+  pub neither-i : member a i ≡ false → member b i ≡ false → member (bitOr a b) i ≡ false
+  neither-i p q = member-or a b i ∙ rw (p, q)
+
+  pub neither-e : member (bitOr a b) i ≡ false → (member a i ≡ false) × (member b i ≡ false)
+  neither-e e = (off (member a i) (λ p. clash (member (bitOr a b) i) (either-l p) e), off (member b i) (λ p. clash (member (bitOr a b) i) (either-r p) e))
 
   pub without-e : member (without a b) i ≡ true → (i < 64) × (member a i ≡ true) × (member b i ≡ false)
   unfolding without only

@@ -9,7 +9,7 @@ use native.Mathlib.Omega.{arith}
 use lib.Pow.{pow-pos}
 use lib.Bits.{bitAnd, and-le-l}
 use Rattle.bounded.proofs.Bools.{split?, and-no-l}
-use Rattle.bounded.specs.Bounded.{any, all}
+use Rattle.bounded.specs.Bounded.{all}
 use Rattle.sets.specs.Sets.{member, gather, only, without, always, allBelow}
 use Rattle.sets.proofs.Members.{member-and, same-set, fits-more}
 use Rattle.sets.proofs.Gather.{gather-lt, gather-is, member-gather, member-gather-past}

@@ -57,14 +57,11 @@ fn all_founded(g: Network, before: &[u64; 64], s: Standing) -> bool
     sets::subset(standing::preceding(g, before, active), s.held)
 }
 
-// Returning ones are C, so exposed and not firm, and outside the current way.
+// Returning ones are C or D, so not firm, and outside the current way.
 fn returning_outside(g: Network, s: Standing, way: u64) -> bool
     ensures { λ t. ⌜ t ≡ returningOutside g s way ⌝ }
 {
-    sets::subset(
-        s.returning,
-        sets::minus(sets::minus(g.exposed, g.firm), way),
-    )
+    sets::disjoint(s.returning, g.firm | way)
 }
 
 // A held booking outside the current way, or a returning one, means none is requested.

@@ -11,8 +11,10 @@ use Rattle.plan.specs.Judging.{isFine}
 use Rattle.lines.specs.Form.{waysPlace}
 use Rattle.sheet.specs.Sheet.{sheetOf}
 use Rattle.sheet.proofs.Accepted.{sheet-valid, sheet-counts}
+use Rattle.plan.proofs.Valid.{Valid}
 use Rattle.network.specs.FromPlan.{networkOf}
 use Rattle.network.specs.Network.{wayOf}
+use Rattle.network.proofs.Letters.{firm-is, repeats-is}
 use Rattle.ways.specs.Ways.{countsListed}
 use Rattle.ways.specs.WayText.{sizeAt}
 use Rattle.verdict.specs.Check.{check, verdictNumber}
@@ -57,10 +59,14 @@ module _ (s : List ℕ) (e : sheetPasses s ≡ true) where
   unfolding waySizes waySize wayOf networkIn networkOf sizeAt sheetPasses
   listed-sizes = sym (sheet-counts s (and-l (isFine (sheetOf s .judged)) _ e))
 
+  valid-plan : Valid (sheetOf s .plan)
+  unfolding sheetPasses
+  valid-plan = sheet-valid s (and-l (isFine (sheetOf s .judged)) _ e)
+
   guaranteed : (qs : List Asked) → Guarantee (networkIn s) qs
   unfolding sheetPasses passes networkIn
   guaranteed qs =
-      plan-campaign (sheetOf s .plan) (sheet-valid s (and-l (isFine (sheetOf s .judged)) _ e))
+      plan-campaign (sheetOf s .plan) valid-plan
       (eqb-true (verdictNumber (check (networkIn s))) 0 (and-r (isFine (sheetOf s .judged)) _ e)) qs
 
   started : (bs : List ℕ) → length bs ≡ 65 → startLeaves s bs ≡ bytesOf start
@@ -69,7 +75,7 @@ module _ (s : List ℕ) (e : sheetPasses s ≡ true) where
 
   -- every list of calls from the first state has the guarantee
   pub from-start : (qs : List Asked) → WholeCampaign s (bytesOf start) qs
-  unfolding answersTo orderAfter
+  unfolding answersTo orderAfter networkIn
   from-start qs =
       let g = guaranteed qs in
       let a : answersOn s (bytesOf start) qs ≡ answersTo (networkIn s) qs = answers-is (bytesOf start) qs in
@@ -80,6 +86,7 @@ module _ (s : List ℕ) (e : sheetPasses s ≡ true) where
         bytes = states-is (bytesOf start) qs ∙ g .bytes;
         demand-3 = rw (a, x) (g .demand-3);
         sizes = listed-sizes;
+        kinds = λ b h. (firm-is (sheetOf s .plan) valid-plan b h, repeats-is (sheetOf s .plan) valid-plan b h);
         semi-atomic = λ z. rw a (g .semi-atomic (ap ends (sym x) ∙ z));
       }
 

@@ -27,6 +27,11 @@ pub fn tanker() -> Plan {
     plan_of("CPCR", &[(1, 2), (2, 3), (2, 4)], &[&[1, 2, 3], &[1, 2, 4]])
 }
 
+/// 1 range slot, 2 chase aircraft of this kind, 3 tanker; or 1 and 4 a van.
+pub fn chase(kind: char) -> Plan {
+    plan_of(&format!("C{kind}PC"), &[(1, 3)], &[&[1, 2, 3], &[1, 4]])
+}
+
 /// Two pivots in a row with choices after each, and a way without either.
 pub fn middle_sized() -> Plan {
     plan_of(
@@ -51,6 +56,11 @@ pub fn named() -> Vec<Flight> {
         flight("repeated way", plan_of("CC", &[], &[&[1, 2], &[1], &[1, 2]]), (7, 3)),
         flight("one returnable", plan_of("C", &[], &[&[1]]), (0, 0)),
         flight("two returnables", plan_of("CC", &[], &[&[1, 2]]), (0, 0)),
+        flight("pivot and repeatable, no other way", plan_of("PR", &[], &[&[1, 2]]), (8, 257)),
+        flight("pivot and one that repeats and returns", plan_of("PD", &[], &[&[1, 2]]), (0, 0)),
+        flight("chase that can be returned", chase('D'), (0, 0)),
+        flight("chase that can't be returned", chase('R'), (8, 257)),
+        flight("chase that may be lost", chase('C'), (8, 258)),
         flight("two repeatables", plan_of("RR", &[], &[&[1], &[2]]), (0, 0)),
         flight("middle-sized", middle_sized(), (0, 0)),
     ]
@@ -179,9 +189,11 @@ pub fn unsound_states() -> Vec<Unsound> {
         unsound(tanker(), &[1, 0, 2], "requested, held, returning stand on held"),
         unsound(tanker(), &[0, 0, 3, 4], "requested, held, returning stand on held"),
         unsound(tanker(), &[1, 0, 0, 0, 3], "lost are exposed"),
+        unsound(chase('D'), &[1, 1, 3], "lost are exposed"),
         unsound(tanker(), &[1, 2, 2, 0, 1], "requested are in the current way"),
         unsound(tanker(), &[1, 2, 2, 0, 4], "returning are returnable"),
         unsound(tanker(), &[1, 4], "returning are outside the current way"),
+        unsound(chase('D'), &[1, 2, 4], "returning are outside the current way"),
         unsound(two_choices(), &[2, 3, 2, 1], "nothing requested while clearing"),
         unsound(two_choices(), &[2, 3, 4, 1], "nothing requested while clearing"),
         unsound(tanker(), &[2], "earlier ways are not live"),
@@ -308,6 +320,31 @@ mod tests {
         for (sentence, _) in run::SENTENCES {
             assert!(unsound_states().iter().any(|case| case.sentence == sentence));
         }
+    }
+
+    #[test]
+    fn a_returning_booking_may_be_of_two_kinds() {
+        let plan = plan_of("CCDPR", &[], &[&[1], &[2, 3], &[3, 4], &[5]]);
+        let network = crate::check::check(plan).unwrap();
+        for (booking, sound) in [(2, true), (3, true), (4, false), (5, false)] {
+            let mut state = state_of(&[1]);
+            state[booking] = run::RETURNING;
+            assert_eq!(run::is_sound(&network, &state), sound, "booking {booking}");
+        }
+    }
+
+    #[test]
+    fn one_that_repeats_and_returns() {
+        let plan = plan_of("PD", &[], &[&[1, 2]]);
+        let (one, two) = (pack(6, 0, 1), pack(6, 0, 2));
+        let requests = [STARTED, pack(1, 0, 1), pack(1, 0, 2), WAITS];
+        let flown = answers(&plan, &[(b'N', 2), (b'Y', 1), (b'Y', 2)]);
+        let replies = [two, pack(1, 0, 2), WAITS, one, WAITS, two, pack(4, 0, 1)];
+        assert_eq!(flown, [&requests[..], &replies[..]].concat());
+        let off = answers(&plan, &[(b'Y', 2), (b'N', 1), (b'K', 2), (b'G', 2)]);
+        let back = pack(2, 0, 2);
+        let replies = [two, WAITS, one, back, WAITS, two, back, WAITS, two, OFF];
+        assert_eq!(off, [&requests[..], &replies[..]].concat());
     }
 
     #[test]

@@ -43,7 +43,7 @@ pub fn random_plan(dice: &mut Dice, size: Size) -> Plan {
 
 /// A random order of bookings, random links along it, random closed ways.
 fn loose(dice: &mut Dice, n: usize, size: Size) -> Plan {
-    let palette = dice.pick(&["C", "CCP", "CPR", "CRR", "PR", "CCCCPRR", "CCCCCCCR"]);
+    let palette = dice.pick(&["C", "CCP", "CPR", "CRR", "PR", "D", "CD", "PDD", "CPRD", "CCCCPRRDD", "CCCCCCCR"]);
     let kinds = (0..n).map(|_| Kind::of_letter(dice.pick(palette.as_bytes())).unwrap()).collect();
     let order = numbering(dice, n);
     let density = dice.pick(&[0, 3, 10, 25, 50]) * 8 / n.max(8);
@@ -75,6 +75,11 @@ fn numbering(dice: &mut Dice, n: usize) -> Vec<usize> {
     numbers
 }
 
+/// C, or sometimes D.
+fn returnable(dice: &mut Dice) -> Kind {
+    if dice.percent(20) { Kind::RepeatableReturnable } else { Kind::Returnable }
+}
+
 /// Hands out the bookings of a ladder one after the other.
 struct Ladder {
     numbers: Vec<usize>,
@@ -90,16 +95,19 @@ impl Ladder {
         Some(booking)
     }
 
-    fn add_some(&mut self, kind: Kind, count: usize, standing_on: &[usize]) -> Vec<usize> {
-        (0..count).filter_map(|_| self.add(kind, standing_on)).collect()
+    /// New bookings of one kind, some of them D instead.
+    fn add_some(&mut self, dice: &mut Dice, kind: Kind, count: usize, standing_on: &[usize]) -> Vec<usize> {
+        let mixed = |dice: &mut Dice| if dice.percent(20) { Kind::RepeatableReturnable } else { kind };
+        (0..count).filter_map(|_| self.add(mixed(dice), standing_on)).collect()
     }
 }
 
 /// Pivots one above the other, returnables before each, and after each some
 /// ways that can fail and one of repeatables that can't; then ways of
-/// returnables alone.
+/// returnables alone. Any of these may be D.
 fn ladder(dice: &mut Dice, n: usize, size: Size) -> Plan {
-    let plan = Plan { kinds: vec![Kind::Returnable; n], ..Plan::default() };
+    let kinds = (0..n).map(|_| returnable(dice)).collect();
+    let plan = Plan { kinds, ..Plan::default() };
     let mut ladder = Ladder { numbers: numbering(dice, n), plan };
     let spare = ladder.numbers.split_off(n - dice.between(0, n / 3));
     let width = 1 + n / 12;
@@ -108,7 +116,8 @@ fn ladder(dice: &mut Dice, n: usize, size: Size) -> Plan {
     let mut top = None;
     for _ in 0..dice.between(1, 1 + size.ways / 4) {
         let under: Vec<usize> = top.into_iter().collect();
-        let before = ladder.add_some(Kind::Returnable, dice.between(0, width), &under);
+        let count = dice.between(0, width);
+        let before = ladder.add_some(dice, Kind::Returnable, count, &under);
         let standing_on = [under, before.clone()].concat();
         let Some(pivot) = ladder.add(Kind::Pivot, &standing_on) else { break };
         stem.extend(before);
@@ -147,10 +156,12 @@ fn add_returnable_ways(dice: &mut Dice, plan: &mut Plan, spare: &[usize], size: 
 fn rung(dice: &mut Dice, ladder: &mut Ladder, stem: &[usize], pivot: usize, width: usize) -> Vec<Vec<usize>> {
     let mut ways = Vec::new();
     for _ in 0..dice.between(0, 3) {
-        let tail = ladder.add_some(Kind::Returnable, dice.between(1, width), &[pivot]);
+        let count = dice.between(1, width);
+        let tail = ladder.add_some(dice, Kind::Returnable, count, &[pivot]);
         ways.push([stem, &tail].concat());
     }
-    let sure = ladder.add_some(Kind::Repeatable, dice.between(0, width), &[pivot]);
+    let count = dice.between(0, width);
+    let sure = ladder.add_some(dice, Kind::Repeatable, count, &[pivot]);
     ways.push([stem, &sure].concat());
     ways
 }
@@ -242,8 +253,8 @@ fn mend_stranding(dice: &mut Dice, plan: &mut Plan, way: usize, x: usize) {
             use_every_booking(dice, plan);
             close_ways(plan);
         }
-        6 => plan.kinds[x - 1] = Kind::Repeatable,
-        _ => plan.kinds[dice.pick(&firm) - 1] = Kind::Returnable,
+        6 => plan.kinds[x - 1] = dice.pick(&[Kind::Repeatable, Kind::RepeatableReturnable]),
+        _ => plan.kinds[dice.pick(&firm) - 1] = returnable(dice),
     }
 }
 
@@ -263,7 +274,7 @@ fn spoil_plan(dice: &mut Dice, plan: &mut Plan) {
         }
         3 => plan.ways.push(plan.ways[way].clone()),
         4 => dice.shuffle(&mut plan.ways),
-        _ => plan.kinds[dice.below(n)] = dice.pick(&[Kind::Pivot, Kind::Repeatable]),
+        _ => plan.kinds[dice.below(n)] = dice.pick(&[Kind::Pivot, Kind::Repeatable, Kind::RepeatableReturnable]),
     }
     tidy(plan);
 }
@@ -286,9 +297,9 @@ pub fn spoil_sheet(dice: &mut Dice, sheet: &[u8]) -> Vec<u8> {
     match dice.below(10) {
         0 => text.truncate(at),
         1 => text[at] = dice.byte(),
-        2 => text[at] = dice.pick(b" 0123456789ABCLPRX\n\r\t"),
+        2 => text[at] = dice.pick(b" 0123456789ABCDLPRX\n\r\t"),
         3 => drop(text.remove(at)),
-        4 => text.insert(at, dice.pick(b" 0123456789ABCLPRX\n")),
+        4 => text.insert(at, dice.pick(b" 0123456789ABCDLPRX\n")),
         5 => text.push(dice.byte()),
         6 => text = spoil_lines(dice, &text),
         _ => spoil_field(dice, &mut text),
@@ -335,7 +346,7 @@ fn spoil_field(dice: &mut Dice, text: &mut [u8]) {
 /// Every byte that may stand in for this one when a sheet is damaged.
 pub fn damages(byte: u8) -> Vec<u8> {
     let mut values = vec![byte.wrapping_sub(1), byte.wrapping_add(1), byte ^ 128, byte ^ 32, 0, 255];
-    values.extend(b"\n\r\t 0123456789/:ABCGKLNPRXYabcpr-+.");
+    values.extend(b"\n\r\t 0123456789/:ABCDGKLNPRXYabcdpr-+.");
     values.sort();
     values.dedup();
     values.retain(|&value| value != byte);
@@ -366,6 +377,24 @@ mod tests {
             println!("{size:?}: {hits:?}");
             assert_eq!(hits[1..4], [0, 0, 0]);
             assert!(hits[0] * 10 > count as usize * 3);
+        }
+    }
+
+    #[test]
+    fn plans_that_pass_have_all_four_kinds() {
+        for (size, count) in [(SMALL, 2000), (MIDDLE, 500), (LIMITS, 60)] {
+            let mut hits = std::collections::BTreeMap::new();
+            for round in 0..count {
+                let plan = random_plan(&mut Dice::for_round(1, round), size);
+                if let Ok(network) = check::check(plan) {
+                    for kind in network.plan.kinds {
+                        *hits.entry(kind.letter()).or_insert(0) += 1;
+                    }
+                }
+            }
+            println!("{size:?}: {hits:?}");
+            let all: usize = hits.values().sum();
+            assert!("CPRD".chars().all(|letter| hits[&letter] * 40 > all));
         }
     }
 

@@ -19,6 +19,7 @@ pub enum Kind {
     Returnable,
     Pivot,
     Repeatable,
+    RepeatableReturnable,
 }
 
 impl Kind {
@@ -27,6 +28,7 @@ impl Kind {
             b'C' => Some(Kind::Returnable),
             b'P' => Some(Kind::Pivot),
             b'R' => Some(Kind::Repeatable),
+            b'D' => Some(Kind::RepeatableReturnable),
             _ => None,
         }
     }
@@ -36,6 +38,7 @@ impl Kind {
             Kind::Returnable => 'C',
             Kind::Pivot => 'P',
             Kind::Repeatable => 'R',
+            Kind::RepeatableReturnable => 'D',
         }
     }
 
@@ -47,6 +50,16 @@ impl Kind {
     /// A desk can refuse it for good.
     pub fn is_exposed(self) -> bool {
         self == Kind::Returnable || self == Kind::Pivot
+    }
+
+    /// Its desk takes it back.
+    pub fn can_be_returned(self) -> bool {
+        self == Kind::Returnable || self == Kind::RepeatableReturnable
+    }
+
+    /// Its desk confirms it if it is asked often enough.
+    pub fn repeats(self) -> bool {
+        self == Kind::Repeatable || self == Kind::RepeatableReturnable
     }
 }
 
@@ -256,7 +269,7 @@ mod tests {
 
     #[test]
     fn a_sheet_is_read_back() {
-        let text = "P   2   1   2\nB   1 C\nB   2 R\nL   1   2\nA   1   1\nA   2   1   2\n";
+        let text = "P   4   1   2\nB   1 C\nB   2 R\nB   3 D\nB   4 P\nL   1   2\nA   1   1\nA   2   1   2\n";
         let plan = read(text.as_bytes()).unwrap();
         assert_eq!(plan.links, [(1, 2)]);
         assert_eq!(plan.ways, [vec![1], vec![1, 2]]);
@@ -279,6 +292,7 @@ mod tests {
         assert_eq!(refused("P   0   0   1\n"), (2, 1));
         assert_eq!(refused("P   0   0   1"), (1, 1));
         assert_eq!(refused("P   1   0   1\nB   2 X\n"), (1, 2));
+        assert_eq!(refused("P   1   0   1\nB   1 d\n"), (1, 2));
         assert_eq!(refused("P   1   0   1\nB   2 C\n"), (3, 2));
         assert_eq!(refused("P   1   0   1\nB   1 C\nA   0"), (2, 3));
         assert_eq!(refused("P   1   0   1\nB   1 C\nA   2   1"), (2, 3));

@@ -1,7 +1,6 @@
 //! The run: soundness of a state, the next order, and replies.
 
 use crate::check::Network;
-use crate::plan::Kind;
 
 pub const STATE_LENGTH: usize = 65;
 
@@ -88,7 +87,7 @@ fn requested_are_in_current_way(network: &Network, state: &State) -> bool {
 
 fn returning_are_returnable(network: &Network, state: &State) -> bool {
     let returning = with_code(network, state, RETURNING);
-    returning.iter().all(|&b| network.plan.kind(b) == Kind::Returnable)
+    returning.iter().all(|&b| network.plan.kind(b).can_be_returned())
 }
 
 fn returning_are_outside_current_way(network: &Network, state: &State) -> bool {

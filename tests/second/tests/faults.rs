@@ -31,9 +31,17 @@ enum Fault {
     CallsOffWithNothingFirm,
     WaitsAtTheEnd,
     NeverChangesState,
+    DIsNoKind,
+    DIsFirm,
+    DIsExposed,
+    DIsLost,
+    ReturningDIsUnsound,
+    DIsNeverReturned,
 }
 
 struct Faulty(Fault);
+
+const D: Kind = Kind::RepeatableReturnable;
 
 /// A check with its own idea of where a loss strands.
 fn other_check(sheet: &[u8], strands: fn(&Network, usize, usize) -> bool) -> u32 {
@@ -71,6 +79,25 @@ fn strands_without_any_holder(network: &Network, way: usize, x: usize) -> bool {
     !firm.is_empty() && !(way + 1..=network.plan.ways.len()).any(holds)
 }
 
+/// Check, with another kind in place of each D.
+fn check_without_d(sheet: &[u8], instead: Kind) -> u32 {
+    let Ok(mut plan) = plan::read(sheet) else { return calls::check(sheet) };
+    plan.kinds.iter_mut().filter(|kind| **kind == D).for_each(|kind| *kind = instead);
+    calls::check(plan::write(&plan).as_bytes())
+}
+
+/// The line of the first D on a sheet that can be read.
+fn line_of_d(sheet: &[u8]) -> Option<u32> {
+    let kinds = plan::read(sheet).ok()?.kinds;
+    Some(kinds.iter().position(|&kind| kind == D)? as u32 + 2)
+}
+
+/// Whether a booking of kind D has this code.
+fn has_d(sheet: &[u8], state: &[u8], code: u8) -> bool {
+    let Ok(network) = calls::judge(sheet) else { return false };
+    network.plan.bookings().any(|b| network.plan.kind(b) == D && state[b] == code)
+}
+
 /// The state, if it is sound but for one sentence that is not looked at.
 fn sound_but(network: &Network, state: &[u8], dropped: usize) -> Option<State> {
     let state: State = state.try_into().ok()?;
@@ -99,6 +126,7 @@ impl Faulty {
         match self.0 {
             Fault::KeptBecomesFree if letter == b'K' => state[booking] = run::FREE,
             Fault::RepeatableIsLost if letter == b'N' => state[booking] = run::LOST,
+            Fault::DIsLost if letter == b'N' && network.plan.kind(booking) == D => state[booking] = run::LOST,
             Fault::OnlyNextWay if switched && state[0] > 0 => state[0] = before[0] + 1,
             Fault::CallsOffWithNothingFirm if switched && !firm_held(network, state) => state[0] = 0,
             Fault::SwitchWhileRequested if letter == b'N' && requested(state) => state[0] = 0,
@@ -115,6 +143,9 @@ impl Campaign for Faulty {
             Fault::RejectsAll if kind_of(answer) == 6 => pack(0, 8, 257),
             Fault::RepeatablesLeftOutOfS => other_check(sheet, strands_without_repeatables),
             Fault::RefugeMayHaveLostPivot => other_check(sheet, strands_without_any_holder),
+            Fault::DIsNoKind => line_of_d(sheet).map_or(answer, |line| pack(0, 1, line)),
+            Fault::DIsFirm => check_without_d(sheet, Kind::Repeatable),
+            Fault::DIsExposed => check_without_d(sheet, Kind::Returnable),
             Fault::OneLineFeedTooManyIsRead if sheet.ends_with(b"\n\n") => {
                 calls::check(&sheet[..sheet.len() - 1])
             }
@@ -153,6 +184,14 @@ impl Campaign for Faulty {
                 answer
             }
             Fault::WaitsAtTheEnd if kind_of(answer) == 5 => pack(3, 0, 0),
+            Fault::ReturningDIsUnsound if kind_of(answer) != 0 && has_d(sheet, &before, run::RETURNING) => {
+                state.copy_from_slice(&before);
+                pack(0, 11, 0)
+            }
+            Fault::DIsNeverReturned if kind_of(answer) == 2 && has_d(sheet, state, run::RETURNING) => {
+                state.copy_from_slice(&before);
+                pack(3, 0, 0)
+            }
             Fault::ReturnInAnyOrder if kind_of(answer) == 2 => {
                 state.copy_from_slice(&before);
                 let held = |&b: &usize| state[b] == run::HELD;
@@ -213,6 +252,9 @@ fn wrong_checks_are_found() {
         RefugeMayHaveLostPivot,
         OneLineFeedTooManyIsRead,
         StrandingPlaceTurnedRound,
+        DIsNoKind,
+        DIsFirm,
+        DIsExposed,
     ] {
         assert!(is_found(fault), "{fault:?}");
     }
@@ -237,6 +279,9 @@ fn wrong_runs_are_found() {
         CallsOffWithNothingFirm,
         WaitsAtTheEnd,
         NeverChangesState,
+        DIsLost,
+        ReturningDIsUnsound,
+        DIsNeverReturned,
     ];
     let bytes = [
         LongerStateIsCut,

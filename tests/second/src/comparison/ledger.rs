@@ -3,7 +3,7 @@
 
 use super::Call;
 use crate::calls::{kind_of, place_of, ACCEPTED, CALLED_OFF, FLOWN, REQUEST, RETURN};
-use crate::plan::{Kind, Plan};
+use crate::plan::Plan;
 use std::collections::BTreeMap;
 
 type Counts = BTreeMap<usize, usize>;
@@ -16,7 +16,7 @@ pub struct Ledger {
     returned: Counts,
     /// Requests, returns and accepted replies together.
     steps: usize,
-    /// q: accepted N to repeatables, and accepted K.
+    /// q: accepted N to R or D, and accepted K.
     repeats: usize,
 }
 
@@ -67,7 +67,7 @@ impl Ledger {
             b'Y' => add(&mut self.confirmed, booking),
             b'G' => add(&mut self.returned, booking),
             b'K' => self.repeats += 1,
-            b'N' if plan.kind(booking) == Kind::Repeatable => self.repeats += 1,
+            b'N' if plan.kind(booking).repeats() => self.repeats += 1,
             _ => {}
         }
     }
@@ -113,7 +113,11 @@ mod tests {
 
     /// What the last of these calls breaks, if anything; the others break nothing.
     fn last(calls: &[(Call, u32)]) -> Option<String> {
-        let plan = plan_of("CR", &[], &[&[1, 2], &[2]]);
+        last_of("CR", calls)
+    }
+
+    fn last_of(kinds: &str, calls: &[(Call, u32)]) -> Option<String> {
+        let plan = plan_of(kinds, &[], &[&[1, 2], &[2]]);
         let mut ledger = Ledger::default();
         let (&(call, answer), earlier) = calls.split_last().unwrap();
         for &(call, answer) in earlier {
@@ -160,8 +164,10 @@ mod tests {
         assert!(last(&[&held[..], &[off]].concat()).is_some());
         assert!(last(&[&held[..], &back, &[off]].concat()).is_none());
         // A firm one must not even have been confirmed.
-        let firm = [request(2), reply(b'Y', 2), (ORDER, pack(RETURN, 0, 2)), reply(b'G', 2)];
-        assert!(last(&[&firm[..], &[off]].concat()).is_some());
+        let back_again = [request(2), reply(b'Y', 2), (ORDER, pack(RETURN, 0, 2)), reply(b'G', 2)];
+        for (kinds, broken) in [("CR", true), ("CP", true), ("CC", false), ("CD", false)] {
+            assert_eq!(last_of(kinds, &[&back_again[..], &[off]].concat()).is_some(), broken, "{kinds}");
+        }
     }
 
     #[test]
@@ -170,7 +176,10 @@ mod tests {
         let refused: Vec<_> = [request(1), reply(b'N', 1)].repeat(6);
         assert!(last(&refused).is_none());
         assert!(last(&[&refused[..], &[request(1)]].concat()).is_some());
-        assert!(last(&[request(2), reply(b'N', 2)].repeat(50)).is_none());
+        for kinds in ["CR", "CD"] {
+            assert!(last_of(kinds, &[request(2), reply(b'N', 2)].repeat(50)).is_none());
+        }
+        assert!(last_of("CP", &[&[request(2), reply(b'N', 2)].repeat(6)[..], &[request(2)]].concat()).is_some());
         assert!(last(&[(ORDER, pack(RETURN, 0, 1)), reply(b'K', 1)].repeat(50)).is_none());
     }
 }

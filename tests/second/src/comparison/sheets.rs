@@ -84,7 +84,14 @@ impl Comparison<'_> {
         self.play(&flights::tanker(), &tanker_replies, calls::pack(calls::FLOWN, 0, 2))?;
         self.play(&one, &[(b'N', 1)], calls::pack(calls::CALLED_OFF, 0, 0))?;
         let kept = [(b'Y', 1), (b'N', 2), (b'K', 1), (b'G', 1)];
-        self.play(&two, &kept, calls::pack(calls::CALLED_OFF, 0, 0))
+        self.play(&two, &kept, calls::pack(calls::CALLED_OFF, 0, 0))?;
+        let pivot_and_both = flights::plan_of("PD", &[], &[&[1, 2]]);
+        let asked_again = [(b'N', 2), (b'Y', 1), (b'Y', 2)];
+        self.play(&pivot_and_both, &asked_again, calls::pack(calls::FLOWN, 0, 1))?;
+        let given_back = [(b'N', 2), (b'Y', 2), (b'N', 1), (b'K', 2), (b'G', 2)];
+        self.play(&pivot_and_both, &given_back, calls::pack(calls::CALLED_OFF, 0, 0))?;
+        let chase_back = [(b'N', 2), (b'Y', 1), (b'Y', 2), (b'N', 3), (b'G', 2), (b'Y', 4)];
+        self.play(&flights::chase('D'), &chase_back, calls::pack(calls::FLOWN, 0, 2))
     }
 
     fn play(&mut self, plan: &plan::Plan, replies: &[(u8, u32)], end: u32) -> Outcome {

@@ -3,6 +3,7 @@
 use super::Call;
 use crate::calls::{kind_of, refusal_of};
 use crate::check::Network;
+use crate::plan::Kind;
 use std::collections::BTreeMap;
 use std::fmt;
 
@@ -36,6 +37,11 @@ impl Tally {
         if let Some(network) = network {
             self.event("random plans that pass");
             let plan = &network.plan;
+            let both = plan.kinds.iter().filter(|&&kind| kind == Kind::RepeatableReturnable).count();
+            self.events_add("D in random plans that pass", both as u64);
+            if both > 0 {
+                self.event("that pass with a D");
+            }
             if plan.count() == 64 {
                 self.event("that pass with 64 bookings");
             }
@@ -49,7 +55,11 @@ impl Tally {
     }
 
     pub fn event(&mut self, name: &'static str) {
-        *self.events.entry(name).or_default() += 1;
+        self.events_add(name, 1);
+    }
+
+    fn events_add(&mut self, name: &'static str, count: u64) {
+        *self.events.entry(name).or_default() += count;
     }
 
     /// A state that breaks this sentence of soundness alone.

@@ -32,7 +32,7 @@ fn manner(dice: &mut Dice) -> Manner {
 impl Manner {
     /// The letter of a reply that fits.
     fn letter(&self, dice: &mut Dice, code: u8, kind: Kind) -> u8 {
-        let refuse = if kind == Kind::Repeatable { self.repeat } else { 100 - self.confirm };
+        let refuse = if kind.repeats() { self.repeat } else { 100 - self.confirm };
         match code {
             RETURNING if dice.percent(self.keep) => b'K',
             RETURNING => b'G',
@@ -45,7 +45,7 @@ impl Manner {
 fn any_letter(dice: &mut Dice) -> u8 {
     match dice.below(10) {
         0..=6 => dice.pick(b"YNGK"),
-        7..=8 => dice.pick(b"yngkXCPR \n\0\xFF"),
+        7..=8 => dice.pick(b"yngkXCDPR \n\0\xFF"),
         _ => dice.byte(),
     }
 }
@@ -118,6 +118,7 @@ impl Comparison<'_> {
             let entered = ledger.enter(plan, call, answer);
             entered.map_err(|told| self.report(case, &state, &told))?;
             self.note_switch(way, state[0]);
+            self.note_both(plan, call, answer);
             if is_end(call, answer) && calls_after_end == 0 {
                 self.note_end(answer, state[0]);
             }
@@ -135,6 +136,20 @@ impl Comparison<'_> {
     fn note_switch(&mut self, before: u8, after: u8) {
         if before != after && after != 0 {
             self.tally.event("switches to another way");
+        }
+    }
+
+    /// What the desks of the kind D did.
+    fn note_both(&mut self, plan: &Plan, call: Call, answer: u32) {
+        let Call::Reply(letter, booking) = call else { return };
+        if kind_of(answer) != ACCEPTED || plan.kind(booking as usize) != Kind::RepeatableReturnable {
+            return;
+        }
+        match letter {
+            b'N' => self.tally.event("D refused in campaigns"),
+            b'Y' => self.tally.event("D confirmed in campaigns"),
+            b'G' => self.tally.event("D returned in campaigns"),
+            _ => self.tally.event("D kept in campaigns"),
         }
     }
 
