@@ -184,6 +184,7 @@ fn main() {
     let by_ways = grown(&[(64, 512, 1), (64, 512, 2), (64, 512, 4), (64, 512, 8), (64, 512, 16)]);
     let longest = [sheets::longest_text()];
     let mut compared = equal::compare(&sheets, &longest);
+    compared += equal::compare(&sheets::compared_only(&examples), &[]);
     for series in [&by_bookings, &by_links, &by_ways] {
         compared += equal::compare(&[], series);
     }

@@ -69,6 +69,11 @@ pub fn main_sheets(examples: &str) -> Vec<Sheet> {
     ]
 }
 
+/// A sheet with the kind that none of the measured ones has, D.
+pub fn compared_only(examples: &str) -> Vec<Sheet> {
+    vec![example(examples, "chase", "chase (4, 1, 2)")]
+}
+
 /// The longest text: every way has every booking, so it reads but is refused with 7.
 pub fn longest_text() -> Sheet {
     let ways: Vec<Vec<usize>> = vec![(1..=64).collect(); 16];

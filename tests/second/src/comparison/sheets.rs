@@ -17,6 +17,7 @@ impl Comparison<'_> {
             self.damage_everywhere(&flight, &mut dice)?;
         }
         self.damage_longest(&mut dice)?;
+        self.every_kind()?;
         if self.check_only {
             return Ok(());
         }
@@ -72,6 +73,25 @@ impl Comparison<'_> {
             self.compare_sheet(&Case::new(&damaged), dice)?;
             self.compare_sheet(&Case::with_rest(&sheet[..at], &sheet[at..]), dice)?;
             self.compare_sheet(&Case::new(&generate::spoil_sheet(dice, &sheet)), dice)?;
+        }
+        Ok(())
+    }
+
+    /// Every byte as the letter of a kind: four are kinds, the others are no
+    /// line of this form.
+    fn every_kind(&mut self) -> Outcome {
+        self.part = "every byte as a kind".to_string();
+        for letter in 0..=255 {
+            let sheet = [b"P   1   0   1\nB   1 ", &[letter][..], b"\nA   1   1\n"].concat();
+            let case = Case::new(&sheet);
+            let answer = self.call(&case, &mut Vec::new(), Call::Check)?;
+            let due = match letter {
+                b'C' | b'P' | b'R' | b'D' => calls::pack(calls::ACCEPTED, 0, 0),
+                _ => calls::pack(calls::REFUSED, 1, 2),
+            };
+            if answer != due {
+                return Err(self.report(&case, &[], "not the verdict written down\n"));
+            }
         }
         Ok(())
     }
