@@ -5,7 +5,7 @@ use mathlib.Core.List.{map}
 use Rattle.bounded.specs.Bounded.{any, all, seek, first, table}
 use Rattle.sets.specs.Sets.{member, gather, inserted, insert, kept, subsetOf, apart, disjointFrom, some, only, without}
 use Rattle.precedence.specs.Precedence.{joinedOf, throughAt, throughOf, closureTo, closureOf}
-use Rattle.network.specs.FromPlan.{ofKind, joins, linked, directAt, directOf, networkOf}
+use Rattle.network.specs.FromPlan.{oneOf, ofKind, joins, linked, directAt, directOf, networkOf}
 use Rattle.network.specs.Network.{wayOf, inWay, before, pre, firm, exposed}
 use Rattle.verdict.specs.Check.{circular, gap, unclosed, usedBy, unused, sameWay, repeated, stays, staying, leadsTo, settledBy, safe, refuge, laterRefuge, stranding, strands, check, verdictNumber, verdictPlace}
 use Rattle.standing.specs.Standing.{codeIs, coded}
@@ -18,5 +18,5 @@ use Rattle.guarantee.specs.Machine.{replyTo, answer, after, machineAnswe
 use Rattle.guarantee.specs.Flights.{Flight, outcome, link, setOf, planOf, passes, refuses, request, return, accepted, flownBy, calledOff, checked, flown, flights}
 
 pub flights-hold : map outcome flights ≡ map (λ (f : Flight). f .expected) flights
-unfolding any all seek first table member gather inserted insert kept subsetOf apart disjointFrom joinedOf throughAt throughOf closureTo closureOf ofKind joins linked directAt directOf networkOf wayOf inWay before pre firm exposed some circular gap unclosed usedBy unused sameWay repeated stays staying leadsTo settledBy safe refuge laterRefuge stranding strands check verdictNumber verdictPlace only without codeIs coded supports precedesSome ready lostIn heldFirm live liveAt firstLive code start toReturn toRequest ending next toSwitch settle afterNo reply pack orderBits place9 replyBits checkBits replyTo answer after machineAnswers outcome link setOf planOf passes refuses request return accepted flownBy calledOff checked flown flights
+unfolding any all seek first table member gather inserted insert kept subsetOf apart disjointFrom joinedOf throughAt throughOf closureTo closureOf oneOf ofKind joins linked directAt directOf networkOf wayOf inWay before pre firm exposed some circular gap unclosed usedBy unused sameWay repeated stays staying leadsTo settledBy safe refuge laterRefuge stranding strands check verdictNumber verdictPlace only without codeIs coded supports precedesSome ready lostIn heldFirm live liveAt firstLive code start toReturn toRequest ending next toSwitch settle afterNo reply pack orderBits place9 replyBits checkBits replyTo answer after machineAnswers outcome link setOf planOf passes refuses request return accepted flownBy calledOff checked flown flights
 flights-hold = refl

@@ -1,21 +1,24 @@
 -- The round trips of the lines of all bookings and of all links: what is written is read back (`kinds-read`, `links-read`), and accepted
--- lines are, to the byte, what is written of what was read, whose entries are good (`kinds-accepted`, `links-accepted`).
+-- lines are, to the byte, what is written of what was read, whose entries are good (`kinds-accepted`, `links-accepted`). `letter-at` says which
+-- letter a booking's line has.
 -- Assumes nothing.
 use Prim.Native.Nat.{ℕ, zero, suc, _+_, _*_, _^_, _<_, _≤_}
 use mathlib.Core.Path.{_≡_, refl, sym, ap, _∙_}
 use mathlib.Core.Logic.{inl, inr}
 use mathlib.Core.List.{List, _∷_, _++_, append-assoc}
 use mathlib.Core.Bool.{true}
+use native.Mathlib.Nat.{add-zero}
 use native.Mathlib.Omega.{arith}
 use native.Mathlib.Numerals.{add-one}
 use lib.ListN.{length, getD, take, drop, set, length-set}
-use lib.Seq.{take-at, drop-at, take-add, getD-set-same, getD-set-other}
+use lib.Seq.{drop-drop, take-at, drop-at, take-add, getD-set-same, getD-set-other}
 use Rattle.bounded.proofs.Bools.{clash, same?}
+use Rattle.decimal.specs.Decimal.{columns, columnsTo}
 use Rattle.plan.specs.Record.{kindAt, linkAt}
 use Rattle.plan.specs.Limits.{inSequence}
 use Rattle.plan.specs.declared.Judged.the-variants.{Fine, Form, Sequence}
 use Rattle.lines.specs.Form.{bookingBytes, linkBytes}
-use Rattle.lines.specs.Booking.{bookingText, bookingOf}
+use Rattle.lines.specs.Booking.{bookingText, kindIn, bookingOf}
 use Rattle.lines.specs.Link.{linkText, linkOf}
 use Rattle.lines.specs.Kinds.{kindsText, afterBooking, kindsOf}
 use Rattle.lines.specs.Links.{linksText, afterLink, linksOf}
@@ -30,6 +33,27 @@ use Rattle.lines.proofs.Lengths.{booking-length, link-length}
 use Rattle.lines.proofs.RoundTrip.{BookingIs, booking-read, booking-accepted, LinkIs, link-read, link-accepted}
 
 -- ---- bookings
+
+first-letter : (x k : ℕ) (rest : List ℕ) → kindIn (bookingText x k ++ rest) ≡ k
+unfolding kindIn bookingText columns columnsTo
+first-letter x k rest = refl
+
+-- the letter on the line of the b-th booking from index i on
+pub letter-at : (n i b : ℕ) (ks rest : List ℕ) → b < n → kindIn (drop (bookingBytes * b) (kindsText n i ks ++ rest)) ≡ getD ks (i + b) 0
+unfolding kindsText
+letter-at zero i b ks rest h = absurd (omega arith)
+letter-at (suc n) i zero ks rest h =
+    let t : List ℕ = bookingText (i + 1) (getD ks i 0) in
+    let e : t ++ kindsText n (i + 1) ks ++ rest ≡ t ++ (kindsText n (i + 1) ks ++ rest) = append-assoc t _ _ in
+    rw (e, add-zero i) (first-letter (i + 1) (getD ks i 0) (kindsText n (i + 1) ks ++ rest))
+letter-at (suc n) i (suc b) ks rest h =
+    let t : List ℕ = bookingText (i + 1) (getD ks i 0) in
+    let r : List ℕ = kindsText n (i + 1) ks ++ rest in
+    let e : t ++ kindsText n (i + 1) ks ++ rest ≡ t ++ r = append-assoc t _ _ in
+    let m : bookingBytes * suc b ≡ bookingBytes + bookingBytes * b = omega arith in
+    let d : drop bookingBytes (t ++ r) ≡ r = drop-at t r bookingBytes (booking-length (i + 1) (getD ks i 0)) in
+    let p : i + 1 + b ≡ i + suc b = omega arith in
+    rw (e, m, ← (drop-drop (bookingBytes * b) bookingBytes (t ++ r)), d) (rw p at (letter-at n (i + 1) b ks rest (omega arith)))
 
 pub kinds-read : (n i : ℕ) (ks rest acc : List ℕ) → i + n < 10 ^ 4 → ((j : ℕ) → i ≤ j → j < i + n → kindAt ks j ≡ true)
     → kindsOf n i (kindsText n i ks ++ rest) acc ≡ record { judged = Fine; kind = filled n i ks acc }

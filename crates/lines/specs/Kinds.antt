@@ -4,8 +4,8 @@ use Prim.Native.Nat.{ℕ, zero, suc, _+_}
 use mathlib.Core.List.{List, [], _++_}
 use lib.ListN.{getD, take, drop, set, replicate}
 use Rattle.plan.specs.Limits.{mostBookings}
-use Rattle.lines.specs.Form.{bookingBytes}
-use Rattle.lines.specs.Booking.{bookingText, bookingOf}
+use Rattle.lines.specs.Form.{bookingBytes, linksPlace}
+use Rattle.lines.specs.Booking.{bookingText, kindIn, bookingOf}
 use Rattle.lines.specs.declared.Booking.{Booking}
 use Rattle.lines.specs.declared.Booking.the-variants.{Kind, Malformed, OutOfSequence}
 use Rattle.plan.specs.declared.Judged.the-variants.{Fine, Form, Sequence}
@@ -15,6 +15,10 @@ use Rattle.lines.specs.declared.Kinds.{Kinds}
 unfoldable pub kindsText : ℕ → ℕ → List ℕ → List ℕ
 kindsText zero i ks = []
 kindsText (suc more) i ks = bookingText (i + 1) (getD ks i 0) ++ kindsText more (i + 1) ks
+
+-- the letter on the line of the booking at index b, which begins where links would begin after b bookings
+unfoldable pub letterOn : List ℕ → ℕ → ℕ
+letterOn s b = kindIn (drop (linksPlace b) s)
 
 -- on with the kind that a line holds, or refused at line l with the kinds so far
 abbrev pub afterBooking : Booking → ℕ → List ℕ → (ℕ → Kinds) → Kinds

@@ -19,7 +19,7 @@ use Rattle.sets.proofs.Whole.{gather-ext}
 use Rattle.precedence.specs.Precedence.{closureOf}
 use Rattle.plan.specs.declared.Plan.{Plan}
 use Rattle.network.specs.declared.Network.{Network}
-use Rattle.network.specs.FromPlan.{joins, linked, directAt, directOf, firmAt, exposedAt, networkOf}
+use Rattle.network.specs.FromPlan.{joins, linked, directAt, directOf, isFirm, isExposed, ofKind, networkOf}
 
 module _ (us vs : List ℕ) where
   pub direct-none : (v : ℕ) → v < 64 → getD (replicate 64 0) v 0 ≡ directAt us vs 0 v
@@ -62,7 +62,7 @@ module _ (us vs : List ℕ) where
   ]
 
 pub network-is : (p : Plan) (d b : List ℕ) (f e : ℕ) → d ≡ directOf (p .from) (p .to) (p .m) → b ≡ closureOf d
-    → f ≡ gather (firmAt (p .kind)) (p .n) → e ≡ gather (exposedAt (p .kind)) (p .n)
+    → f ≡ gather (ofKind isFirm (p .kind)) (p .n) → e ≡ gather (ofKind isExposed (p .kind)) (p .n)
     → _≡_ {A = Network} (record { n = p .n; a = p .a; way = p .way; before = b; firm = f; exposed = e }) (networkOf p)
 unfolding networkOf
 network-is p d b f e hd hb hf he = rw (hf, he, hb, hd)

@@ -12,25 +12,29 @@ use Rattle.plan.specs.Limits.{C, P, R, D}
 use Rattle.plan.specs.declared.Plan.{Plan}
 use Rattle.network.specs.declared.Network.{Network}
 
--- booking b is of one of two kinds
-unfoldable pub ofKind : ℕ → ℕ → List ℕ → ℕ → Bool
-ofKind x y ks b = eqb (getD ks b 0) x || eqb (getD ks b 0) y
+-- a letter is one of two
+unfoldable pub oneOf : ℕ → ℕ → ℕ → Bool
+oneOf x y k = eqb k x || eqb k y
 
 -- firm kinds are P and R
-abbrev pub firmAt : List ℕ → ℕ → Bool
-firmAt = ofKind P R
+abbrev pub isFirm : ℕ → Bool
+isFirm = oneOf P R
 
 -- exposed kinds are C and P
-abbrev pub exposedAt : List ℕ → ℕ → Bool
-exposedAt = ofKind C P
+abbrev pub isExposed : ℕ → Bool
+isExposed = oneOf C P
 
--- kinds that can be given back are C and D
-abbrev pub givenBackAt : List ℕ → ℕ → Bool
-givenBackAt = ofKind C D
+-- returnable kinds are C and D
+abbrev pub isReturnable : ℕ → Bool
+isReturnable = oneOf C D
 
--- kinds that are requested again after a refusal are R and D
-abbrev pub repeatsAt : List ℕ → ℕ → Bool
-repeatsAt = ofKind R D
+-- repeating kinds are R and D: after a refusal they are requested again
+abbrev pub isRepeating : ℕ → Bool
+isRepeating = oneOf R D
+
+-- booking b is of such a kind
+unfoldable pub ofKind : (ℕ → Bool) → List ℕ → ℕ → Bool
+ofKind f ks b = f (getD ks b 0)
 
 -- link i says that booking u comes before booking v
 unfoldable pub joins : List ℕ → List ℕ → ℕ → ℕ → ℕ → Bool
@@ -53,8 +57,8 @@ networkOf p = record {
   a = p .a;
   way = p .way;
   before = closureOf (directOf (p .from) (p .to) (p .m));
-  firm = gather (firmAt (p .kind)) (p .n);
-  exposed = gather (exposedAt (p .kind)) (p .n);
+  firm = gather (ofKind isFirm (p .kind)) (p .n);
+  exposed = gather (ofKind isExposed (p .kind)) (p .n);
 }
 
 -- what the work on a plan's links relies on: the first m links join numbers from 1 to 64

@@ -1,12 +1,10 @@
 // A plan as the rules look at it, its links closed to chains.
 use plan::Plan;
 ghost use mathlib.Core.Path.{_≡_};
-ghost use mathlib.Core.Bool.{_||_};
 ghost use Prim.Native.Nat.{_≤_};
-ghost use lib.Dec.{eqb};
 ghost use Rattle.bounded.specs.Bounded.{table};
 ghost use Rattle.sets.specs.Sets.{alone, gather};
-ghost use Rattle.network.specs.FromPlan.{firmAt, exposedAt, directOf, networkOf, Ends};
+ghost use Rattle.network.specs.FromPlan.{oneOf, isFirm, isExposed, ofKind, directOf, networkOf, Ends};
 
 // A plan as the rules see it. Booking number b is index b - 1 and bit b - 1 of every set; way[k] is way number k + 1.
 // before[v] has all bookings that precede v, by one link or by a chain of links.
@@ -27,7 +25,7 @@ struct Kinds {
 
 // Whether k is one of two kinds.
 fn is_either(k: u8, x: u8, y: u8) -> bool
-    ensures { λ r. ⌜ r ≡ (eqb k x || eqb k y) ⌝ }
+    ensures { λ r. ⌜ r ≡ oneOf x y k ⌝ }
 {
     if k == x {
         return true;
@@ -38,7 +36,7 @@ fn is_either(k: u8, x: u8, y: u8) -> bool
 // The bookings below n by their kinds: firm are P and R, exposed C and P, and D is neither.
 fn kinds_of(bits: &[u64; 64], kind: &[u8; 64], n: usize) -> Kinds
     requires { ⌜ (now bits ≡ table alone 64) × (n ≤ 64) ⌝ }
-    ensures { λ r. ⌜ (r .firm ≡ gather (firmAt (now (kind .entry))) n) × (r .exposed ≡ gather (exposedAt (now (kind .entry))) n) ⌝ }
+    ensures { λ r. ⌜ (r .firm ≡ gather (ofKind isFirm (now (kind .entry))) n) × (r .exposed ≡ gather (ofKind isExposed (now (kind .entry))) n) ⌝ }
 {
     let mut firm: u64 = 0;
     let mut exposed: u64 = 0;

@@ -1,11 +1,13 @@
--- What an accepted sheet is: its plan is valid (`sheet-valid`), and its bytes are, to the last, the sheet of that plan (`sheet-accepted`).
+-- What an accepted sheet is: its plan is valid (`sheet-valid`), and its bytes are, to the last, the sheet of that plan (`sheet-accepted`). So its lines
+-- have the letters of the plan's kinds (`sheet-letters`) and the counts of its ways (`sheet-counts`).
 -- Assumes nothing.
-use Prim.Native.Nat.{ℕ, _+_, _*_}
+use Prim.Native.Nat.{ℕ, _+_, _*_, _<_}
 use mathlib.Core.Path.{_≡_, refl, sym, ap, _∙_}
 use mathlib.Core.List.{List, [], _++_, append-nil}
 use mathlib.Core.Bool.{Bool, true, false, cond}
+use native.Mathlib.Nat.{zero-add}
 use native.Mathlib.Omega.{arith}
-use lib.ListN.{length, take, drop, take-append-drop}
+use lib.ListN.{length, getD, take, drop, take-append-drop}
 use lib.Dec.{eqb}
 use lib.Seq.{drop-drop, drop-length}
 use borrow.Author.Tests.{eqb-true}
@@ -21,12 +23,13 @@ use Rattle.plan.proofs.Valid.{Valid, valid, fine-i}
 use Rattle.plan.proofs.RecordLaws.{fine-is}
 use Rattle.lines.specs.Form.{headBytes, bookingBytes, linkBytes, linksPlace, waysPlace}
 use Rattle.lines.specs.Head.{headOf}
-use Rattle.lines.specs.Kinds.{kindsText, noKinds}
+use Rattle.lines.specs.Booking.{kindIn}
+use Rattle.lines.specs.Kinds.{kindsText, letterOn, noKinds}
 use Rattle.lines.specs.Links.{linksText, noLinks}
 use Rattle.lines.specs.declared.Head.{Head}
 use Rattle.lines.specs.declared.Head.the-variants as H
 use Rattle.lines.proofs.RoundTrip.{head-accepted, head-limits}
-use Rattle.lines.proofs.AllLines.{KindsAre, kinds-accepted, LinksAre, links-accepted}
+use Rattle.lines.proofs.AllLines.{letter-at, KindsAre, kinds-accepted, LinksAre, links-accepted}
 use Rattle.lines.proofs.Lengths.{no-kinds-length, no-links-length}
 use Rattle.ways.specs.WayText.{waysText, waysLength, sizeAt}
 use Rattle.ways.specs.Ways.{countsListed}
@@ -139,6 +142,12 @@ module _ (s : List ℕ) (t : Stages s) where
   after-kinds : drop headBytes s ≡ kindsText (t .n) 0 (kindsIn (t .n) s .kind) ++ drop (linksPlace (t .n)) s
   after-kinds = sym (take-append-drop (bookingBytes * t .n) (drop headBytes s)) ∙ rw (the-kinds .text, drop-drop (bookingBytes * t .n) headBytes s)
 
+  letters-are : (b : ℕ) → b < t .n → letterOn s b ≡ getD (kindsIn (t .n) s .kind) b 0
+  unfolding letterOn
+  letters-are b h =
+      ap kindIn (sym (drop-drop (bookingBytes * b) headBytes s)) ∙ ap (λ (l : List ℕ). kindIn (drop (bookingBytes * b) l)) after-kinds
+      ∙ letter-at (t .n) 0 b (kindsIn (t .n) s .kind) (drop (linksPlace (t .n)) s) h ∙ ap (λ (i : ℕ). getD (kindsIn (t .n) s .kind) i 0) (zero-add b)
+
   bytes-are : s ≡ sheetText (planIn (t .n) (t .m) (t .a) s)
   unfolding sheetText planIn
   bytes-are =
@@ -162,6 +171,11 @@ module _ (s : List ℕ) (e : isFine (sheetOf s .judged) ≡ true) where
   -- an accepted sheet is the sheet of its plan
   pub sheet-accepted : sheetText (sheetOf s .plan) ≡ s
   sheet-accepted = sym (bytes-are s (stages s e) ∙ ap sheetText read-plan)
+
+  -- its booking lines have the letters of its kinds
+  pub sheet-letters : (b : ℕ) → b < sheetOf s .plan .n → letterOn s b ≡ getD (sheetOf s .plan .kind) b 0
+  unfolding planIn
+  sheet-letters = rw (← read-plan) (letters-are s (stages s e))
 
   -- the counts that its way lines list add up to the sizes of its sets
   pub sheet-counts : countsListed (sheetOf s .plan .a) (drop (waysPlace (sheetOf s .plan .n) (sheetOf s .plan .m)) s)

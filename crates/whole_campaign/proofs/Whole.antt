@@ -3,14 +3,15 @@
 use mathlib.Core.Path.{_≡_, refl, sym, ap, _∙_}
 use mathlib.Core.Bool.{true}
 use mathlib.Core.List.{List, [], _∷_}
-use Prim.Native.Nat.{ℕ}
-use lib.ListN.{length, drop}
+use Prim.Native.Nat.{ℕ, _<_}
+use lib.ListN.{length, getD, drop}
 use borrow.Author.Tests.{eqb-true, eq-eqb}
 use Rattle.bounded.proofs.Bools.{and-l, and-r}
 use Rattle.plan.specs.Judging.{isFine}
 use Rattle.lines.specs.Form.{waysPlace}
+use Rattle.lines.specs.Kinds.{letterOn}
 use Rattle.sheet.specs.Sheet.{sheetOf}
-use Rattle.sheet.proofs.Accepted.{sheet-valid, sheet-counts}
+use Rattle.sheet.proofs.Accepted.{sheet-valid, sheet-letters, sheet-counts}
 use Rattle.plan.proofs.Valid.{Valid}
 use Rattle.network.specs.FromPlan.{networkOf}
 use Rattle.network.specs.Network.{wayOf}
@@ -63,6 +64,10 @@ module _ (s : List ℕ) (e : sheetPasses s ≡ true) where
   unfolding sheetPasses
   valid-plan = sheet-valid s (and-l (isFine (sheetOf s .judged)) _ e)
 
+  letters : (b : ℕ) → b < sheetOf s .plan .n → letterOn s b ≡ getD (sheetOf s .plan .kind) b 0
+  unfolding sheetPasses
+  letters = sheet-letters s (and-l (isFine (sheetOf s .judged)) _ e)
+
   guaranteed : (qs : List Asked) → Guarantee (networkIn s) qs
   unfolding sheetPasses passes networkIn
   guaranteed qs =
@@ -86,7 +91,7 @@ module _ (s : List ℕ) (e : sheetPasses s ≡ true) where
         bytes = states-is (bytesOf start) qs ∙ g .bytes;
         demand-3 = rw (a, x) (g .demand-3);
         sizes = listed-sizes;
-        kinds = λ b h. (firm-is (sheetOf s .plan) valid-plan b h, repeats-is (sheetOf s .plan) valid-plan b h);
+        kinds = λ b h. rw (letters b h) (firm-is (sheetOf s .plan) valid-plan b h, repeats-is (sheetOf s .plan) valid-plan b h);
         semi-atomic = λ z. rw a (g .semi-atomic (ap ends (sym x) ∙ z));
       }
 

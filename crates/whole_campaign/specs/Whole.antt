@@ -9,8 +9,9 @@ use Prim.Native.Nat.{ℕ, _<_}
 use lib.ListN.{drop}
 use Rattle.ways.specs.Ways.{countsListed}
 use Rattle.lines.specs.Form.{waysPlace}
+use Rattle.lines.specs.Kinds.{letterOn}
 use Rattle.sheet.specs.Sheet.{sheetOf}
-use Rattle.network.specs.FromPlan.{firmAt, repeatsAt}
+use Rattle.network.specs.FromPlan.{isFirm, isRepeating}
 use Rattle.network.specs.Network.{firm, repeats}
 use Rattle.run.specs.State.{start}
 use Rattle.run.specs.Bytes.{bytesOf}
@@ -29,8 +30,7 @@ pub record WholeCampaign (s bs : List ℕ) (qs : List Asked) : Type 0 where
   pub demand-3 : Demand3 (networkIn s) qs (answersOn s bs qs) (askedCall s (leftOn s bs qs) nextOrder)
   -- s in that bound is the sum of the counts that the sheet's way lines list
   pub sizes : waySizes (networkIn s) ≡ countsListed (sheetOf s .plan .a) (drop (waysPlace (sheetOf s .plan .n) (sheetOf s .plan .m)) s)
-  -- the firm bookings, of which none was confirmed where it is called off, are those with P or R on the sheet; those whose refusals q counts, R or D
-  pub kinds : (b : ℕ) → b < sheetOf s .plan .n
-      → (firm (networkIn s) b ≡ firmAt (sheetOf s .plan .kind) b) × (repeats (networkIn s) b ≡ repeatsAt (sheetOf s .plan .kind) b)
+  -- by the letters on the sheet's booking lines, the firm ones in called off are P and R, and those whose refusals q counts are R and D
+  pub kinds : (b : ℕ) → b < sheetOf s .plan .n → (firm (networkIn s) b ≡ isFirm (letterOn s b)) × (repeats (networkIn s) b ≡ isRepeating (letterOn s b))
   -- a list after which next order gives the end is semi-atomic
   pub semi-atomic : ends (askedCall s (leftOn s bs qs) nextOrder) ≡ true → SemiAtomic (networkIn s) qs (answersOn s bs qs)

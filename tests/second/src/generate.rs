@@ -43,7 +43,8 @@ pub fn random_plan(dice: &mut Dice, size: Size) -> Plan {
 
 /// A random order of bookings, random links along it, random closed ways.
 fn loose(dice: &mut Dice, n: usize, size: Size) -> Plan {
-    let palette = dice.pick(&["C", "CCP", "CPR", "CRR", "PR", "D", "CD", "PDD", "CPRD", "CCCCPRRDD", "CCCCCCCR"]);
+    let palette =
+        dice.pick(&["C", "CCP", "CPR", "CRR", "PR", "D", "CD", "PDD", "CPRD", "CCCCPRRDD", "CCCCCCCR"]);
     let kinds = (0..n).map(|_| Kind::of_letter(dice.pick(palette.as_bytes())).unwrap()).collect();
     let order = numbering(dice, n);
     let density = dice.pick(&[0, 3, 10, 25, 50]) * 8 / n.max(8);
@@ -77,7 +78,11 @@ fn numbering(dice: &mut Dice, n: usize) -> Vec<usize> {
 
 /// C, or sometimes D.
 fn returnable(dice: &mut Dice) -> Kind {
-    if dice.percent(20) { Kind::RepeatableReturnable } else { Kind::Returnable }
+    if dice.percent(20) {
+        Kind::RepeatableReturnable
+    } else {
+        Kind::Returnable
+    }
 }
 
 /// Hands out the bookings of a ladder one after the other.
@@ -274,7 +279,10 @@ fn spoil_plan(dice: &mut Dice, plan: &mut Plan) {
         }
         3 => plan.ways.push(plan.ways[way].clone()),
         4 => dice.shuffle(&mut plan.ways),
-        _ => plan.kinds[dice.below(n)] = dice.pick(&[Kind::Pivot, Kind::Repeatable, Kind::RepeatableReturnable]),
+        _ => {
+            plan.kinds[dice.below(n)] =
+                dice.pick(&[Kind::Pivot, Kind::Repeatable, Kind::RepeatableReturnable])
+        }
     }
     tidy(plan);
 }

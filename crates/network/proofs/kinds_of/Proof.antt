@@ -8,12 +8,12 @@ use lib.Bits.{bitOr}
 use Rattle.sets.specs.Sets.{gather}
 use Rattle.sets.proofs.Gather.{gather-zero, gather-skip}
 use Rattle.sets.proofs.Operations.{gather-alone}
-use Rattle.network.specs.FromPlan.{ofKind, firmAt, exposedAt}
+use Rattle.network.specs.FromPlan.{isFirm, isExposed, ofKind}
 use Rattle.network.proofs.kinds_of.Statement.{statement}
 use Rattle.network.proofs.kinds_of.Tie as tie
 
 abbrev Inv-loop : tie.InvT-loop
-Inv-loop bits kind n firm₀ exposed₀ b₀ firm exposed b = (b ≤ n) × (firm ≡ gather (firmAt kind) b) × (exposed ≡ gather (exposedAt kind) b)
+Inv-loop bits kind n firm₀ exposed₀ b₀ firm exposed b = (b ≤ n) × (firm ≡ gather (ofKind isFirm kind) b) × (exposed ≡ gather (ofKind isExposed kind) b)
 
 abbrev μ-loop : tie.MeasureT-loop
 μ-loop bits kind n firm₀ exposed₀ b₀ firm exposed b = n - b

@@ -179,7 +179,9 @@ mod tests {
         for kinds in ["CR", "CD"] {
             assert!(last_of(kinds, &[request(2), reply(b'N', 2)].repeat(50)).is_none());
         }
-        assert!(last_of("CP", &[&[request(2), reply(b'N', 2)].repeat(6)[..], &[request(2)]].concat()).is_some());
+        assert!(
+            last_of("CP", &[&[request(2), reply(b'N', 2)].repeat(6)[..], &[request(2)]].concat()).is_some()
+        );
         assert!(last(&[(ORDER, pack(RETURN, 0, 1)), reply(b'K', 1)].repeat(50)).is_none());
     }
 }
