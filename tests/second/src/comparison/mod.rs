@@ -1,6 +1,7 @@
 //! The comparison of a first version of the four calls with this one: the
 //! same 32 bits, the same bytes of state, and no other byte changed.
 
+mod every;
 mod ledger;
 mod lent;
 pub mod sheets;

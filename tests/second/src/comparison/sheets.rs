@@ -18,6 +18,7 @@ impl Comparison<'_> {
         }
         self.damage_longest(&mut dice)?;
         self.every_kind()?;
+        self.every_small_plan()?;
         if self.check_only {
             return Ok(());
         }

@@ -1,0 +1,81 @@
+//! Every plan of one or two bookings, of all kinds, with every state of it:
+//! few enough to leave none out.
+
+use super::{Call, Case, Comparison, Outcome};
+use crate::plan::{self, Kind, Plan};
+
+const KINDS: [Kind; 4] = [Kind::Returnable, Kind::Pivot, Kind::Repeatable, Kind::RepeatableReturnable];
+
+/// All that can be chosen from these, in their order.
+fn choices<T: Clone>(all: &[T]) -> Vec<Vec<T>> {
+    let chosen = |set: usize| (0..all.len()).filter(move |at| set >> at & 1 == 1);
+    (0..1 << all.len()).map(|set| chosen(set).map(|at| all[at].clone()).collect()).collect()
+}
+
+/// All lists of so many of these.
+fn lists<T: Clone>(all: &[T], length: usize) -> Vec<Vec<T>> {
+    let longer = |list: &Vec<T>| {
+        let list = list.clone();
+        all.iter().map(move |one| [&list[..], &[one.clone()]].concat()).collect::<Vec<_>>()
+    };
+    (0..length).fold(vec![Vec::new()], |shorter, _| shorter.iter().flat_map(longer).collect())
+}
+
+/// All lists of ways over n bookings, equal ones among them.
+fn way_lists(n: usize) -> Vec<Vec<Vec<usize>>> {
+    let bookings: Vec<usize> = (1..=n).collect();
+    let ways: Vec<Vec<usize>> = choices(&bookings).into_iter().filter(|way| !way.is_empty()).collect();
+    (1..=ways.len()).flat_map(|length| lists(&ways, length)).collect()
+}
+
+/// All plans of n bookings with no more ways than there are different ones.
+fn plans(n: usize) -> Vec<Plan> {
+    let pairs: Vec<(usize, usize)> = (1..=n).flat_map(|u| (1..=n).map(move |v| (u, v))).collect();
+    let mut plans = Vec::new();
+    for kinds in lists(&KINDS, n) {
+        for links in choices(&pairs) {
+            for ways in way_lists(n) {
+                plans.push(Plan { kinds: kinds.clone(), links: links.clone(), ways });
+            }
+        }
+    }
+    plans
+}
+
+impl Comparison<'_> {
+    pub fn every_small_plan(&mut self) -> Outcome {
+        for plan in [plans(1), plans(2)].concat() {
+            self.part = format!("every plan of {} bookings", plan.count());
+            let case = Case::new(plan::write(&plan).as_bytes());
+            self.tally.event("plans of one or two bookings");
+            self.call(&case, &mut Vec::new(), Call::Check)?;
+            if case.network().is_some() && !self.check_only {
+                self.every_state(&case, &plan)?;
+            }
+        }
+        Ok(())
+    }
+
+    /// Every way and every code, and one past each.
+    fn every_state(&mut self, case: &Case, plan: &Plan) -> Outcome {
+        for way in 0..=plan.ways.len() as u8 + 1 {
+            for codes in lists(&[0, 1, 2, 3, 4, 5], plan.count()) {
+                let mut state = [&[way], &codes[..]].concat();
+                state.resize(65, 0);
+                self.tally.event("states of plans of one or two bookings");
+                self.every_call(case, plan, &state)?;
+            }
+        }
+        Ok(())
+    }
+
+    fn every_call(&mut self, case: &Case, plan: &Plan, state: &[u8]) -> Outcome {
+        self.call(case, &mut state.to_vec(), Call::NextOrder)?;
+        for booking in plan.bookings() {
+            for letter in *b"YNGK" {
+                self.call(case, &mut state.to_vec(), Call::Reply(letter, booking as u32))?;
+            }
+        }
+        Ok(())
+    }
+}
