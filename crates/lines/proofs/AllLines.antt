@@ -13,7 +13,6 @@ use native.Mathlib.Numerals.{add-one}
 use lib.ListN.{length, getD, take, drop, set, length-set}
 use lib.Seq.{drop-drop, take-at, drop-at, take-add, getD-set-same, getD-set-other}
 use Rattle.bounded.proofs.Bools.{clash, same?}
-use Rattle.decimal.specs.Decimal.{columns, columnsTo}
 use Rattle.plan.specs.Record.{kindAt, linkAt}
 use Rattle.plan.specs.Limits.{inSequence}
 use Rattle.plan.specs.declared.Judged.the-variants.{Fine, Form, Sequence}
@@ -30,13 +29,9 @@ use Rattle.lines.specs.declared.Kinds.{Kinds}
 use Rattle.lines.specs.declared.Links.{Links}
 use Rattle.bounded.proofs.Filled.{filled}
 use Rattle.lines.proofs.Lengths.{booking-length, link-length}
-use Rattle.lines.proofs.RoundTrip.{BookingIs, booking-read, booking-accepted, LinkIs, link-read, link-accepted}
+use Rattle.lines.proofs.RoundTrip.{its-kind, BookingIs, booking-read, booking-accepted, LinkIs, link-read, link-accepted}
 
 -- ---- bookings
-
-first-letter : (x k : ℕ) (rest : List ℕ) → kindIn (bookingText x k ++ rest) ≡ k
-unfolding kindIn bookingText columns columnsTo
-first-letter x k rest = refl
 
 -- the letter on the line of the b-th booking from index i on
 pub letter-at : (n i b : ℕ) (ks rest : List ℕ) → b < n → kindIn (drop (bookingBytes * b) (kindsText n i ks ++ rest)) ≡ getD ks (i + b) 0
@@ -45,7 +40,7 @@ letter-at zero i b ks rest h = absurd (omega arith)
 letter-at (suc n) i zero ks rest h =
     let t : List ℕ = bookingText (i + 1) (getD ks i 0) in
     let e : t ++ kindsText n (i + 1) ks ++ rest ≡ t ++ (kindsText n (i + 1) ks ++ rest) = append-assoc t _ _ in
-    rw (e, add-zero i) (first-letter (i + 1) (getD ks i 0) (kindsText n (i + 1) ks ++ rest))
+    rw (e, add-zero i) (its-kind (i + 1) (getD ks i 0) (kindsText n (i + 1) ks ++ rest))
 letter-at (suc n) i (suc b) ks rest h =
     let t : List ℕ = bookingText (i + 1) (getD ks i 0) in
     let r : List ℕ = kindsText n (i + 1) ks ++ rest in

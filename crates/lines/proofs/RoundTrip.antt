@@ -2,7 +2,7 @@
 -- Assumes nothing.
 use Prim.Native.Nat.{ℕ, _^_, _<_}
 use mathlib.Core.Path.{_≡_, refl, _∙_, sym}
-use mathlib.Core.List.{List}
+use mathlib.Core.List.{List, [], _++_, append-nil}
 use mathlib.Core.Bool.{Bool, true, false, _&&_, cond}
 use native.Mathlib.Omega.{arith}
 use lib.Dec.{eqb}
@@ -73,13 +73,14 @@ its-number : (x k : ℕ) → x < 10 ^ 4 → numberIn (bookingText x k) ≡ x
 unfolding bookingText columns columnsTo
 its-number x k h = number-in 4 1 x (bookingText x k) h refl
 
-its-kind : (x k : ℕ) → kindIn (bookingText x k) ≡ k
+-- its kind, whatever follows the line
+pub its-kind : (x k : ℕ) (rest : List ℕ) → kindIn (bookingText x k ++ rest) ≡ k
 unfolding kindIn bookingText columns columnsTo
-its-kind x k = refl
+its-kind x k rest = refl
 
 pub booking-read : (x k : ℕ) → x < 10 ^ 4 → isKind k ≡ true → bookingOf (bookingText x k) x ≡ B.Kind k
 unfolding bookingOf isBooking
-booking-read x k h q = rw (its-number x k h, its-kind x k, same-refl (bookingText x k), q, eq-eqb x x refl)
+booking-read x k h q = rw (its-number x k h, rw append-nil at (its-kind x k []), same-refl (bookingText x k), q, eq-eqb x x refl)
 
 pub record BookingIs (line : List ℕ) (x k : ℕ) : Type 0 where
   pub text : line ≡ bookingText x k

@@ -3,13 +3,12 @@
 use mathlib.Core.Path.{_≡_, refl, sym, ap, _∙_}
 use mathlib.Core.Bool.{true}
 use mathlib.Core.List.{List, [], _∷_}
-use Prim.Native.Nat.{ℕ, _<_}
-use lib.ListN.{length, getD, drop}
+use Prim.Native.Nat.{ℕ}
+use lib.ListN.{length, drop}
 use borrow.Author.Tests.{eqb-true, eq-eqb}
 use Rattle.bounded.proofs.Bools.{and-l, and-r}
 use Rattle.plan.specs.Judging.{isFine}
 use Rattle.lines.specs.Form.{waysPlace}
-use Rattle.lines.specs.Kinds.{letterOn}
 use Rattle.sheet.specs.Sheet.{sheetOf}
 use Rattle.sheet.proofs.Accepted.{sheet-valid, sheet-letters, sheet-counts}
 use Rattle.plan.proofs.Valid.{Valid}
@@ -55,18 +54,17 @@ module _ (s : List ℕ) (e : sheetPasses s ≡ true) where
   left-is bs [] = refl
   left-is bs (q ∷ qs) = rw (leaves-is bs q, left-is (callBytes (networkIn s) bs q) qs)
 
+  fine : isFine (sheetOf s .judged) ≡ true
+  unfolding sheetPasses
+  fine = and-l (isFine (sheetOf s .judged)) _ e
+
   -- the ways of the sheet and the counts on its lines
   listed-sizes : waySizes (networkIn s) ≡ countsListed (sheetOf s .plan .a) (drop (waysPlace (sheetOf s .plan .n) (sheetOf s .plan .m)) s)
-  unfolding waySizes waySize wayOf networkIn networkOf sizeAt sheetPasses
-  listed-sizes = sym (sheet-counts s (and-l (isFine (sheetOf s .judged)) _ e))
+  unfolding waySizes waySize wayOf networkIn networkOf sizeAt
+  listed-sizes = sym (sheet-counts s fine)
 
   valid-plan : Valid (sheetOf s .plan)
-  unfolding sheetPasses
-  valid-plan = sheet-valid s (and-l (isFine (sheetOf s .judged)) _ e)
-
-  letters : (b : ℕ) → b < sheetOf s .plan .n → letterOn s b ≡ getD (sheetOf s .plan .kind) b 0
-  unfolding sheetPasses
-  letters = sheet-letters s (and-l (isFine (sheetOf s .judged)) _ e)
+  valid-plan = sheet-valid s fine
 
   guaranteed : (qs : List Asked) → Guarantee (networkIn s) qs
   unfolding sheetPasses passes networkIn
@@ -91,7 +89,7 @@ module _ (s : List ℕ) (e : sheetPasses s ≡ true) where
         bytes = states-is (bytesOf start) qs ∙ g .bytes;
         demand-3 = rw (a, x) (g .demand-3);
         sizes = listed-sizes;
-        kinds = λ b h. rw (letters b h) (firm-is (sheetOf s .plan) valid-plan b h, repeats-is (sheetOf s .plan) valid-plan b h);
+        kinds = λ b h. rw (sheet-letters s fine b h) (firm-is (sheetOf s .plan) valid-plan b h, repeats-is (sheetOf s .plan) valid-plan b h);
         semi-atomic = λ z. rw a (g .semi-atomic (ap ends (sym x) ∙ z));
       }
 
