@@ -10,6 +10,7 @@
  *
  *     Sheets     campaign_check
  *     The run    campaign_start, campaign_next_order, campaign_reply
+ *     Journal    campaign_journal_line, campaign_restart
  *
  *
  * What may be lent
@@ -80,6 +81,9 @@ extern "C" {
    each of 64 bookings. Booking b has byte b; bytes past the last booking are 0. */
 #define CAMPAIGN_STATE_LENGTH 65
 
+/* Bytes of a journal line. */
+#define CAMPAIGN_JOURNAL_LINE_LENGTH 6
+
 /* What each booking's byte says. */
 enum campaign_code {
     CAMPAIGN_FREE = 0,      /* not asked for, or given back */
@@ -103,14 +107,16 @@ enum campaign_kind {
     CAMPAIGN_FLOWN = 4,
     /* The end: nothing is held (0). */
     CAMPAIGN_CALLED_OFF = 5,
-    /* check and start: the sheet passes (0); reply: it was taken (the booking). */
+    /* check, start: the sheet passes (0); reply: it was taken (the booking);
+       journal line: it was written (its length, 6); restart: the journal is
+       right (0). */
     CAMPAIGN_ACCEPTED = 6
 };
 
 /*
  * The refusals; in brackets the place. Lines are counted from 1. Of several
  * faults the first is given: 1 to 3 line by line from the top (on one line 1,
- * then 2, then 3), then 4 to 8, then 11, then 9.
+ * then 2, then 3), then 4 to 8, then 11, then 9 or 12, then 10.
  */
 enum campaign_refusal {
     /* Not refused. */
@@ -141,13 +147,16 @@ enum campaign_refusal {
        returning one; or there is no such letter or booking (the booking given,
        0 if it is above 64). */
     CAMPAIGN_MISFIT = 9,
-    /* A buffer is too short for the text to be written (0). None of these
-       calls gives it. */
+    /* A buffer is too short for the text to be written (0). */
     CAMPAIGN_SHORT_BUFFER = 10,
     /* The state is not sound: it has not 65 bytes, or its bytes contradict the
        sheet or each other, being damaged or of another sheet (0). A change that
        leaves a sound state is not noticed. */
-    CAMPAIGN_UNSOUND = 11
+    CAMPAIGN_UNSOUND = 11,
+    /* A whole line of the journal is not of its form, is not the order that
+       was due there, or is a reply that does not fit (the line; 65535 for any
+       line beyond). */
+    CAMPAIGN_WRONG_LINE = 12
 };
 
 /* An answer is kind * 16777216 + refusal * 65536 + place. */
@@ -202,9 +211,7 @@ uint32_t campaign_check(const uint8_t *sheet, size_t sheet_len);
  *                            campaign_reply, ask again;
  *         flown, called off: done.
  *
- * Store the state before an order is sent and a run can go on after a crash;
- * whether the last order was sent is then for the dispatcher to find out, for
- * the state says only that it was given.
+ * A dispatcher that keeps a journal (below) can go on after a crash.
  */
 
 /* Letters of a reply. */
@@ -251,6 +258,68 @@ uint32_t campaign_next_order(const uint8_t *sheet, size_t sheet_len,
 uint32_t campaign_reply(const uint8_t *sheet, size_t sheet_len,
                         uint8_t *state, size_t state_len,
                         uint8_t letter, uint32_t booking);
+
+/* ============================== Journal =============================== */
+
+/*
+ * A journal is a file with one line for each request or return that
+ * campaign_next_order gave and for each reply that campaign_reply accepted, in
+ * the order of the calls: the line's letter, the booking in four columns, a
+ * line feed. Waits, ends and refused calls have no line.
+ *
+ *     Q   1      booking 1 was requested
+ *     Y   1      its desk confirmed it
+ *
+ * Store (append and sync) the line of an order or of an accepted reply before
+ * the next call, and an order's line also before the order is sent. Then the
+ * program may stop at any moment, in the middle of a write too. After a stop:
+ *
+ *     campaign_restart gives the state that follows the journal's whole lines;
+ *     cut the file to whole lines, its length - length % 6, before you store
+ *     another line;
+ *     send every open order again: booking b has an open request where
+ *     state[b] is CAMPAIGN_REQUESTED, an open return where it is
+ *     CAMPAIGN_RETURNING. This is no further request or return;
+ *     discard any later reply to an order whose reply the journal has;
+ *     go on with campaign_next_order and campaign_reply.
+ *
+ * An order or a reply without its whole line counts as not made. Where desks
+ * answer an order that is sent twice as they answered it first, the campaign
+ * is as good as one that was never stopped.
+ */
+
+/* Letters of an order's line; a reply's line has the reply's letter. */
+enum campaign_order_letter {
+    CAMPAIGN_REQUEST_LETTER = 'Q',
+    CAMPAIGN_RETURN_LETTER = 'U'
+};
+
+/*
+ * Writes the journal line of an order or a reply at the front of line, six
+ * bytes; later bytes keep their values.
+ *
+ * Accepted with place 6; or refused with 9 if the letter is none of Q, U, Y,
+ * N, G, K or the booking is not 1 to 64 (place as for a reply), then with 10 if
+ * line_len is below 6. It looks at no sheet: whether the line is right where it
+ * stands is for campaign_restart to say.
+ */
+uint32_t campaign_journal_line(uint8_t letter, uint32_t booking,
+                               uint8_t *line, size_t line_len);
+
+/*
+ * The state of a campaign from its journal.
+ *
+ * Accepted with place 0, and the 65 bytes of the state are written whatever
+ * stood there: the state after the calls of the journal's whole lines, from the
+ * start. One to five bytes after the last whole line are dropped, whatever they
+ * are; an empty journal gives the state that campaign_start gives. Refused with
+ * 1 to 8 as by check, then with 11 if state_len is not 65, then with 12 and the
+ * first line that is wrong. The sheet is read and checked once, and the time
+ * for a line does not depend on how many there are.
+ */
+uint32_t campaign_restart(const uint8_t *sheet, size_t sheet_len,
+                          const uint8_t *journal, size_t journal_len,
+                          uint8_t *state, size_t state_len);
 
 #ifdef __cplusplus
 }

@@ -69,7 +69,7 @@ module _ (s : List ℕ) where
 
     -- the sheet is refused
     module _ (n : not (c .passes) ≡ true) where
-      fails : sheetPasses s ≡ false
+      pub fails : sheetPasses s ≡ false
       fails = sym passes-is ∙ not-true (c .passes) n
 
       pub start-refused : (bs : List ℕ) → (c .bits ≡ startCall s bs) × (bs ≡ startLeaves s bs)

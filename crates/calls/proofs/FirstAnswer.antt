@@ -37,7 +37,7 @@ verdict-low (Unused b) h e = omega arith
 verdict-low (Repeated w) h e = omega arith
 verdict-low (Stranding w b) h e = omega arith
 
-refused-low : (s : List ℕ) → sheetPasses s ≡ false → checkCall s < 16777216
+pub refused-low : (s : List ℕ) → sheetPasses s ≡ false → checkCall s < 16777216
 unfolding sheetPasses checkCall
 refused-low s e = elim (which (isFine (sheetOf s .judged))) [
   | inl f ↦

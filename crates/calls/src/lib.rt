@@ -34,7 +34,7 @@ pub struct Campaign {
 
 // ---- answers as 32 bits
 
-fn pack(kind: u32, refusal: u32, place: usize) -> u32
+pub fn pack(kind: u32, refusal: u32, place: usize) -> u32
     requires { ⌜ (kind ≤ 6) × (refusal ≤ 255) × (place < 65536) ⌝ }
     ensures { λ r. ⌜ r ≡ pack kind refusal place ⌝ }
 {
@@ -91,7 +91,7 @@ fn order_bits(o: Order) -> u32
 }
 
 // The place of refusal 9.
-fn place_9(b: u32) -> usize
+pub fn place_9(b: u32) -> usize
     ensures { λ r. ⌜ r ≡ place9 b ⌝ }
 {
     if b <= 64 { b as usize } else { 0 }
@@ -123,7 +123,7 @@ fn no_network() -> Network
 }
 
 // Reads a sheet and checks its plan.
-fn judge_sheet(sheet: &[u8]) -> Checked
+pub fn judge_sheet(sheet: &[u8]) -> Checked
     ensures { λ r. ⌜ r ≡ checkedOf (now (sheet .entry)) ⌝ }
 {
     let read = sheet::read_sheet(sheet);
@@ -243,7 +243,7 @@ pub fn next_order(sheet: &[u8], state: &mut [u8]) -> u32
 }
 
 // A reply by the booking's number: there is no booking 0.
-fn reply_to(r: Run, g: Network, s: Standing, letter: u8, booking: u32) -> Replied
+pub fn reply_to(r: Run, g: Network, s: Standing, letter: u8, booking: u32) -> Replied
     requires { ⌜ (g .n ≤ 64) × (g .a ≤ 16) × (r .way ≤ 16) × (s ≡ standing g r) ⌝ }
     ensures { λ t. ⌜ t ≡ replyTo g r letter booking ⌝ }
 {

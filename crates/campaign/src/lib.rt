@@ -2,6 +2,9 @@
 ghost use mathlib.Core.Path.{_≡_};
 ghost use Rattle.guarantee.specs.Machine.{nextOrder, replied};
 ghost use Rattle.calls.specs.Calls.{checkCall, startCall, startLeaves, askedCall, askedLeaves};
+ghost use lib.ListN.{length};
+ghost use Rattle.journal_calls.specs.Journal.{journalLineCall, journalLineLeaves};
+ghost use Rattle.journal_calls.specs.Restart.{restartCall, restartLeaves};
 
 // ---- sheets
 
@@ -40,4 +43,24 @@ pub extern "C" fn campaign_reply(sheet: &[u8], state: &mut [u8], letter: u8, boo
     ensures left { λ _. ⌜ now (state .exit) ≡ askedLeaves (now (sheet .entry)) (now (state .entry)) (replied letter booking) ⌝ }
 {
     calls::reply(sheet, state, letter, booking)
+}
+
+// ---- the journal
+
+// Writes the line of an order or a reply at the front of the lent bytes.
+#[no_mangle]
+pub extern "C" fn campaign_journal_line(letter: u8, booking: u32, line: &mut [u8]) -> u32
+    ensures answer { λ r. ⌜ r ≡ journalLineCall letter booking (length (now (line .entry))) ⌝ }
+    ensures left { λ _. ⌜ now (line .exit) ≡ journalLineLeaves letter booking (now (line .entry)) ⌝ }
+{
+    journal_calls::journal_line(letter, booking, line)
+}
+
+// Gives the state that follows the whole lines of a journal.
+#[no_mangle]
+pub extern "C" fn campaign_restart(sheet: &[u8], journal: &[u8], state: &mut [u8]) -> u32
+    ensures answer { λ r. ⌜ r ≡ restartCall (now (sheet .entry)) (now (journal .entry)) (now (state .entry)) ⌝ }
+    ensures left { λ _. ⌜ now (state .exit) ≡ restartLeaves (now (sheet .entry)) (now (journal .entry)) (now (state .entry)) ⌝ }
+{
+    journal_calls::restart(sheet, journal, state)
 }

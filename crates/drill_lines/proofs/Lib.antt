@@ -1,4 +1,3 @@
 -- The laws of crate `drill_lines`.
 pub mod PrintLaws
-pub mod ReplyLaws
 pub mod StepLaws

@@ -11,14 +11,12 @@ use lib.Dec.{eqb, leb}
 use borrow.Author.Tests.{eq-eqb, ne-eqb, le-leb, lt-leb}
 use Rattle.decimal.specs.Decimal.{columns, columnsTo}
 use Rattle.decimal.proofs.Stores.{sets-next, sets-counted}
+use Rattle.event_lines.specs.Line.{lineText}
+use Rattle.event_lines.proofs.LineLaws.{line-length}
 use Rattle.guarantee.specs.Answers.{kindOf, placeOf}
-use Rattle.drill_lines.specs.Printed.{refusalOf, letterOf, numberText, refusalText, printedText}
+use Rattle.drill_lines.specs.Printed.{refusalOf, letterOf, refusalText, printedText}
 
 -- ---- lengths
-
-pub number-length : (letter x : ℕ) → length (numberText letter x) ≡ 6
-unfolding numberText columns columnsTo
-number-length letter x = refl
 
 pub refusal-length : (refusal place : ℕ) → length (refusalText refusal place) ≡ 12
 unfolding refusalText columns columnsTo
@@ -30,19 +28,12 @@ unfolding printedText
 printed-length bits = go (eqb (kindOf bits) 0) (leb (kindOf bits) 5)
   where
     go : (a b : Bool)
-        → length (cond a (refusalText (refusalOf bits) (placeOf bits)) (cond b (numberText (letterOf (kindOf bits)) (placeOf bits)) [])) ≤ 12
+        → length (cond a (refusalText (refusalOf bits) (placeOf bits)) (cond b (lineText (letterOf (kindOf bits)) (placeOf bits)) [])) ≤ 12
     go true b = omega (arith, refusal-length (refusalOf bits) (placeOf bits))
-    go false true = omega (arith, number-length (letterOf (kindOf bits)) (placeOf bits))
+    go false true = omega (arith, line-length (letterOf (kindOf bits)) (placeOf bits))
     go false false = omega arith
 
 -- ---- piece by piece
-
-pub number-written : (d b1 b2 b3 : List ℕ) (letter x : ℕ) → b1 ≡ sets d 0 (letter ∷ []) → b2 ≡ sets b1 1 (columns 4 x) → b3 ≡ sets b2 5 (10 ∷ [])
-    → b3 ≡ sets d 0 (numberText letter x)
-unfolding numberText columns columnsTo
-number-written d b1 b2 b3 letter x e f g =
-    let y : b2 ≡ sets d 0 (letter ∷ columns 4 x) = sets-next d b1 b2 0 1 (letter ∷ []) (columns 4 x) refl e f in
-    sets-next d b2 b3 0 5 (letter ∷ columns 4 x) (10 ∷ []) refl y g
 
 pub refusal-written : (d b1 b2 b3 b4 : List ℕ) (l refusal place : ℕ) → l ≡ letterOf 0 → b1 ≡ sets d 0 (l ∷ []) → b2 ≡ sets b1 1 (columns 4 refusal)
     → b3 ≡ sets b2 5 (columns 6 place) → b4 ≡ sets b3 11 (10 ∷ []) → b4 ≡ sets d 0 (refusalText refusal place)
@@ -65,7 +56,7 @@ module _ (bits k : ℕ) (e : k ≡ kindOf bits) where
   unfolding printedText
   accepted h = rw (← e, ne-eqb k 0 (λ z. omega arith), lt-leb k 5 h)
 
-  pub ordered : (l p : ℕ) → (k ≡ 0 → ⊥) → k ≤ 5 → l ≡ letterOf k → p ≡ placeOf bits → numberText l p ≡ printedText bits
+  pub ordered : (l p : ℕ) → (k ≡ 0 → ⊥) → k ≤ 5 → l ≡ letterOf k → p ≡ placeOf bits → lineText l p ≡ printedText bits
   unfolding printedText
   ordered l p z h g q = rw (← e, ne-eqb k 0 z, le-leb k 5 h, g, q)
 

@@ -1,4 +1,3 @@
 -- The definitions of crate `drill_lines`.
 pub mod Printed
-pub mod Replies
 pub mod Steps

@@ -7,6 +7,7 @@ use mathlib.Core.Bool.{cond}
 use lib.ListN.{getD}
 use lib.Dec.{eqb, leb}
 use Rattle.decimal.specs.Decimal.{columns}
+use Rattle.event_lines.specs.Line.{Q, U, lineText}
 use Rattle.guarantee.specs.Answers.{kindOf, placeOf}
 
 -- the refusal's number, between the kind and the place
@@ -15,11 +16,7 @@ refusalOf bits = bits / 65536 % 256
 
 -- the letters X, Q, U, W, E, O of the kinds 0 to 5
 unfoldable pub letterOf : ℕ → ℕ
-letterOf kind = getD (88 ∷ 81 ∷ 85 ∷ 87 ∷ 69 ∷ 79 ∷ []) kind 0
-
--- a letter and a number
-unfoldable pub numberText : ℕ → ℕ → List ℕ
-numberText letter x = letter ∷ (columns 4 x ++ (10 ∷ []))
+letterOf kind = getD (88 ∷ Q ∷ U ∷ 87 ∷ 69 ∷ 79 ∷ []) kind 0
 
 -- a refusal and its place
 unfoldable pub refusalText : ℕ → ℕ → List ℕ
@@ -29,4 +26,4 @@ refusalText refusal place = letterOf 0 ∷ (columns 4 refusal ++ (columns 6 plac
 unfoldable pub printedText : ℕ → List ℕ
 printedText bits =
     cond (eqb (kindOf bits) 0) (refusalText (refusalOf bits) (placeOf bits))
-    (cond (leb (kindOf bits) 5) (numberText (letterOf (kindOf bits)) (placeOf bits)) [])
+    (cond (leb (kindOf bits) 5) (lineText (letterOf (kindOf bits)) (placeOf bits)) [])

@@ -1,19 +1,11 @@
-// The lines of the drill: a desk's reply read from six bytes, a call's answer printed, and what the drill does after an answer.
-use decimal::Field;
+// The lines that the drill prints of an answer, and what the drill does after it.
 ghost use mathlib.Core.Path.{_≡_};
 ghost use Prim.Native.Nat.{_≤_};
 ghost use lib.ListN.{length};
 ghost use lib.Seq.{sets};
 ghost use Rattle.guarantee.specs.Answers.{kindOf, placeOf};
-ghost use Rattle.drill_lines.specs.Replies.{replyOf};
-ghost use Rattle.drill_lines.specs.Printed.{refusalOf, letterOf, numberText, refusalText, printedText};
+ghost use Rattle.drill_lines.specs.Printed.{refusalOf, letterOf, refusalText, printedText};
 ghost use Rattle.drill_lines.specs.Steps.{stepOf};
-
-// What six bytes of the replies hold: a letter, whatever it is, and a booking by number; or they are no reply.
-pub enum Reply {
-    Given(u8, u32),
-    Misformed,
-}
 
 // What the drill does after an answer.
 pub enum Step {
@@ -52,37 +44,7 @@ fn letter(kind: usize) -> u8
     LETTERS[kind]
 }
 
-// ---- reading
-
-// Reads a reply. A part that is too short is misformed too.
-pub fn read_reply(line: &[u8]) -> Reply
-    ensures { λ r. ⌜ r ≡ replyOf (now (line .entry)) ⌝ }
-{
-    if line.len() != 6 {
-        return Reply::Misformed;
-    }
-    let Field::Number(booking) = decimal::field_at(line, 1, 4) else {
-        return Reply::Misformed;
-    };
-    if line[5] != 10 {
-        return Reply::Misformed;
-    }
-    Reply::Given(line[0], booking as u32)
-}
-
 // ---- printing
-
-// Writes a letter and a number in four columns at the front, and gives the length.
-fn write_number(buf: &mut [u8], letter: u8, x: usize) -> usize
-    requires { ⌜ 6 ≤ length (now buf) ⌝ }
-    ensures size { λ r. ⌜ r ≡ length (numberText letter x) ⌝ }
-    ensures text { λ _. ⌜ now (buf .exit) ≡ sets (now (buf .entry)) 0 (numberText letter x) ⌝ }
-{
-    decimal::write_byte(buf, 0, letter);
-    decimal::write_field(buf, 1, 4, x);
-    decimal::write_byte(buf, 5, 10);
-    6
-}
 
 // Writes a refusal, its place in six columns, at the front, and gives the length.
 pub fn write_refusal(buf: &mut [u8], refusal: usize, place: usize) -> usize
@@ -110,7 +72,7 @@ pub fn write_answer(buf: &mut [u8], bits: u32) -> usize
     if k > 5 {
         return 0;
     }
-    write_number(buf, letter(k), place(bits))
+    event_lines::write_line(buf, letter(k), place(bits))
 }
 
 // ---- going on

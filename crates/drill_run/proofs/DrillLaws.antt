@@ -13,11 +13,10 @@ use Rattle.whole_campaign.specs.Lists.{leftOn}
 use Rattle.whole_campaign.specs.Whole.{WholeCampaign}
 use Rattle.whole_campaign.proofs.Whole.{whole-campaign}
 use Rattle.decimal.specs.Decimal.{columns, columnsTo, sameBytes}
-use Rattle.drill_lines.specs.Printed.{numberText}
-use Rattle.drill_lines.specs.Replies.{isReply, replyOf}
+use Rattle.event_lines.specs.Line.{lineText, isLine, lineOf}
 use Rattle.drill_lines.specs.Steps.{stepOf}
-use Rattle.drill_lines.specs.declared.Reply.{Reply}
-use Rattle.drill_lines.specs.declared.Reply.the-variants.{Given, Misformed}
+use Rattle.event_lines.specs.declared.Line.{Line}
+use Rattle.event_lines.specs.declared.Line.the-variants.{Given, Misformed}
 use Rattle.drill_lines.specs.declared.Step.{Step}
 use Rattle.drill_lines.specs.declared.Step.the-variants.{TakeOrder, ReadReply}
 use Rattle.drill_run.specs.Drilled.{heardOf, heardLeaves, HeardAs, Drilled, begun, ordered, heard, Played, DrilledFromStart}
@@ -26,8 +25,8 @@ use Rattle.drill_run.specs.declared.Heard.the-variants.{Answer, Nothing}
 
 -- ---- a reply handed on
 
-no-text : replyOf [] ≡ Misformed
-unfolding replyOf isReply numberText columns columnsTo sameBytes
+no-text : lineOf [] ≡ Misformed
+unfolding lineOf isLine lineText columns columnsTo sameBytes
 no-text = refl
 
 -- the input has ended
@@ -35,15 +34,15 @@ pub ended : (s st : List ℕ) → HeardAs s st Nothing st
 unfolding heardOf heardLeaves
 ended s st = ([], rw no-text, rw no-text)
 
-module _ (s st line : List ℕ) (y : Reply) (e : y ≡ replyOf line) where
-  pub no-reply : y ≡ Misformed → (Nothing ≡ heardOf s st (replyOf line)) × (st ≡ heardLeaves s st (replyOf line))
+module _ (s st line : List ℕ) (y : Line) (e : y ≡ lineOf line) where
+  pub no-reply : y ≡ Misformed → (Nothing ≡ heardOf s st (lineOf line)) × (st ≡ heardLeaves s st (lineOf line))
   unfolding heardOf heardLeaves
-  no-reply k = let z : replyOf line ≡ Misformed = sym e ∙ k in (rw z, rw z)
+  no-reply k = let z : lineOf line ≡ Misformed = sym e ∙ k in (rw z, rw z)
 
   pub handed-on : (letter booking a : ℕ) (st′ : List ℕ) → y ≡ Given letter booking → a ≡ askedCall s st (replied letter booking)
-      → st′ ≡ askedLeaves s st (replied letter booking) → (Answer a ≡ heardOf s st (replyOf line)) × (st′ ≡ heardLeaves s st (replyOf line))
+      → st′ ≡ askedLeaves s st (replied letter booking) → (Answer a ≡ heardOf s st (lineOf line)) × (st′ ≡ heardLeaves s st (lineOf line))
   unfolding heardOf heardLeaves
-  handed-on letter booking a st′ k f g = let z : replyOf line ≡ Given letter booking = sym e ∙ k in (rw (z, f), rw z g)
+  handed-on letter booking a st′ k f g = let z : lineOf line ≡ Given letter booking = sym e ∙ k in (rw (z, f), rw z g)
 
 -- ---- one turn
 
@@ -54,9 +53,9 @@ module _ (s : List ℕ) (b₀ : ℕ) (st₀ : List ℕ) (b : ℕ) (st st′ : Li
 
     pub reply-heard : (h : Heard) (a : ℕ) → t ≡ ReadReply → HeardAs s st h st′ → h ≡ Answer a → Drilled s b₀ st₀ a st′
     unfolding heardOf heardLeaves
-    reply-heard h a k (line, f, g) n = go (replyOf line) (sym n ∙ f) g
+    reply-heard h a k (line, f, g) n = go (lineOf line) (sym n ∙ f) g
       where
-        go : (y : Reply) → Answer a ≡ heardOf s st y → st′ ≡ heardLeaves s st y → Drilled s b₀ st₀ a st′
+        go : (y : Line) → Answer a ≡ heardOf s st y → st′ ≡ heardLeaves s st y → Drilled s b₀ st₀ a st′
         go (Given letter booking) p q =
             let z : a ≡ askedCall s st (replied letter booking) = cc in
             heard letter booking d (sym e ∙ k) (record { answered = z; leaves = q })
@@ -65,9 +64,9 @@ module _ (s : List ℕ) (b₀ : ℕ) (st₀ : List ℕ) (b : ℕ) (st st′ : Li
   -- nothing heard, nothing done
   pub silence : (h : Heard) → HeardAs s st h st′ → h ≡ Nothing → Played s b₀ st₀ st′
   unfolding heardOf heardLeaves
-  silence h (line, f, g) n = go (replyOf line) (sym n ∙ f) g
+  silence h (line, f, g) n = go (lineOf line) (sym n ∙ f) g
     where
-      go : (y : Reply) → Nothing ≡ heardOf s st y → st′ ≡ heardLeaves s st y → Played s b₀ st₀ st′
+      go : (y : Line) → Nothing ≡ heardOf s st y → st′ ≡ heardLeaves s st y → Played s b₀ st₀ st′
       go (Given letter booking) p q = let z : _≡_ {A = ℕ} 0 1 = cc in absurd (omega arith)
       go Misformed p q = (b, rw q d)
 

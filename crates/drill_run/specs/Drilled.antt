@@ -6,10 +6,10 @@ use mathlib.Core.Path.{_≡_}
 use mathlib.Core.List.{List}
 use Rattle.guarantee.specs.Machine.{Asked, nextOrder, replied}
 use Rattle.calls.specs.Calls.{startCall, startLeaves, askedCall, askedLeaves}
-use Rattle.drill_lines.specs.Replies.{replyOf}
+use Rattle.event_lines.specs.Line.{lineOf}
 use Rattle.drill_lines.specs.Steps.{stepOf}
-use Rattle.drill_lines.specs.declared.Reply.{Reply}
-use Rattle.drill_lines.specs.declared.Reply.the-variants.{Given, Misformed}
+use Rattle.event_lines.specs.declared.Line.{Line}
+use Rattle.event_lines.specs.declared.Line.the-variants.{Given, Misformed}
 use Rattle.drill_lines.specs.declared.Step.the-variants.{TakeOrder, ReadReply}
 use Rattle.drill_run.specs.declared.Heard.{Heard}
 use Rattle.drill_run.specs.declared.Heard.the-variants.{Answer, Nothing}
@@ -20,17 +20,17 @@ pub record Called (sheet state : List ℕ) (q : Asked) (bits : ℕ) (left : List
   pub leaves : left ≡ askedLeaves sheet state q
 
 -- what comes of a reply, and the state after it; what is no reply changes nothing
-unfoldable pub heardOf : List ℕ → List ℕ → Reply → Heard
+unfoldable pub heardOf : List ℕ → List ℕ → Line → Heard
 heardOf sheet state (Given letter booking) = Answer (askedCall sheet state (replied letter booking))
 heardOf sheet state Misformed = Nothing
 
-unfoldable pub heardLeaves : List ℕ → List ℕ → Reply → List ℕ
+unfoldable pub heardLeaves : List ℕ → List ℕ → Line → List ℕ
 heardLeaves sheet state (Given letter booking) = askedLeaves sheet state (replied letter booking)
 heardLeaves sheet state Misformed = state
 
 -- some line was heard; it is empty where the input has ended
 abbrev pub HeardAs : List ℕ → List ℕ → Heard → List ℕ → Type 0
-HeardAs sheet state heard left = (line : List ℕ) × (heard ≡ heardOf sheet state (replyOf line)) × (left ≡ heardLeaves sheet state (replyOf line))
+HeardAs sheet state heard left = (line : List ℕ) × (heard ≡ heardOf sheet state (lineOf line)) × (left ≡ heardLeaves sheet state (lineOf line))
 
 -- from an answer and a state to a later answer and state: orders are taken while the answers ask for it, else a reply is handed on
 pub data Drilled (sheet : List ℕ) (bits₀ : ℕ) (state₀ : List ℕ) : ℕ → List ℕ → Type 0 where

@@ -1,10 +1,10 @@
 // The drill: the sheet from plan.txt, replies from standard input, and each answer of the calls printed.
-use drill_lines::Reply;
 use drill_lines::Step;
+use event_lines::Line;
 use libc::STDIN_FILENO;
 use libc::STDOUT_FILENO;
 ghost use mathlib.Core.Path.{_≡_};
-ghost use Rattle.drill_lines.specs.Replies.{replyOf};
+ghost use Rattle.event_lines.specs.Line.{lineOf};
 ghost use Rattle.drill_run.specs.Drilled.{heardOf, heardLeaves, HeardAs, Played, DrilledFromStart};
 ghost use Rattle.io.specs.Counts.{Counts};
 
@@ -44,10 +44,10 @@ fn print_misformed(number: usize) {
 
 // Hands on a line that stands as reply `number`, or prints that it is none.
 fn hand_on(sheet: &[u8], state: &mut [u8], line: &[u8], number: usize) -> Heard
-    ensures answer { λ r. ⌜ r ≡ heardOf (now (sheet .entry)) (now (state .entry)) (replyOf (now (line .entry))) ⌝ }
-    ensures left { λ _. ⌜ now (state .exit) ≡ heardLeaves (now (sheet .entry)) (now (state .entry)) (replyOf (now (line .entry))) ⌝ }
+    ensures answer { λ r. ⌜ r ≡ heardOf (now (sheet .entry)) (now (state .entry)) (lineOf (now (line .entry))) ⌝ }
+    ensures left { λ _. ⌜ now (state .exit) ≡ heardLeaves (now (sheet .entry)) (now (state .entry)) (lineOf (now (line .entry))) ⌝ }
 {
-    let Reply::Given(letter, booking) = drill_lines::read_reply(line) else {
+    let Line::Given(letter, booking) = event_lines::read_line(line) else {
         print_misformed(number);
         return Heard::Nothing;
     };

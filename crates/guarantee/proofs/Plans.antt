@@ -13,6 +13,7 @@ use Rattle.network.specs.FromPlan.{isReturnable, networkOf}
 use Rattle.network.proofs.Letters.{soft-is}
 use Rattle.network.proofs.Plans.{shape}
 use Rattle.verdict.specs.Check.{check, verdictNumber}
+use Rattle.verdict.proofs.Facts.{Passes}
 use Rattle.verdict.proofs.Pass.{passes}
 use Rattle.standing.specs.Standing.{returning}
 use Rattle.run.specs.State.{code}
@@ -32,6 +33,10 @@ returning-kind p v r l e b m =
     let c : Core (networkOf p) r = sound-e (networkOf p) (shape p v) r l e .core in
     sym (soft-is p v b (inside (networkOf p) r (c .past) b (omega arith))) ∙ not-i _ (c .going b m .0)
 
+-- what the check ensures of a valid plan
+pub plan-passes : (p : Plan) → Valid p → verdictNumber (check (networkOf p)) ≡ 0 → Passes (networkOf p)
+plan-passes p v e = passes (networkOf p) (shape p v) e
+
 -- every list of calls on a valid plan that passes
 pub plan-campaign : (p : Plan) → Valid p → verdictNumber (check (networkOf p)) ≡ 0 → (qs : List Asked) → Guarantee (networkOf p) qs
-plan-campaign p v e qs = whole-campaign (networkOf p) (passes (networkOf p) (shape p v) e) qs
+plan-campaign p v e qs = whole-campaign (networkOf p) (plan-passes p v e) qs

@@ -1,3 +1,4 @@
 -- The laws of crate `whole_campaign`.
+pub mod Lists
 pub mod Whole
 pub mod Playing

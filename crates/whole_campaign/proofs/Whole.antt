@@ -18,13 +18,17 @@ use Rattle.network.proofs.Letters.{firm-is, repeats-is}
 use Rattle.ways.specs.Ways.{countsListed}
 use Rattle.ways.specs.WayText.{sizeAt}
 use Rattle.verdict.specs.Check.{check, verdictNumber}
+use Rattle.verdict.proofs.Facts.{Passes}
 use Rattle.run.specs.State.{start}
 use Rattle.run.specs.Bytes.{bytesOf}
-use Rattle.guarantee.specs.Machine.{Asked, nextOrder}
+use Rattle.guarantee.specs.Machine.{Asked, nextOrder, answer, final}
 use Rattle.guarantee.specs.Calls.{callBits, callBytes, answers, states, left, answersTo, orderAfter}
 use Rattle.guarantee.specs.Counted.{ends, waySize, waySizes}
 use Rattle.guarantee.specs.Guarantee.{Guarantee}
-use Rattle.guarantee.proofs.Plans.{plan-campaign}
+use Rattle.guarantee.proofs.Bytes.{call-bits, calls-left}
+use Rattle.guarantee.proofs.Start.{start-sound}
+use Rattle.guarantee.proofs.Whole.{travel}
+use Rattle.guarantee.proofs.Plans.{plan-passes, plan-campaign}
 use Rattle.calls.specs.Calls.{networkIn, passes, sheetPasses, startLeaves, askedCall, askedLeaves}
 use Rattle.whole_campaign.specs.Lists.{answersOn, statesOn, leftOn}
 use Rattle.whole_campaign.specs.Whole.{WholeCampaign}
@@ -66,13 +70,30 @@ module _ (s : List ℕ) (e : sheetPasses s ≡ true) where
   valid-plan : Valid (sheetOf s .plan)
   valid-plan = sheet-valid s fine
 
-  guaranteed : (qs : List Asked) → Guarantee (networkIn s) qs
-  unfolding sheetPasses passes networkIn
-  guaranteed qs =
-      plan-campaign (sheetOf s .plan) valid-plan
-      (eqb-true (verdictNumber (check (networkIn s))) 0 (and-r (isFine (sheetOf s .judged)) _ e)) qs
+  checked : verdictNumber (check (networkIn s)) ≡ 0
+  unfolding sheetPasses passes
+  checked = eqb-true (verdictNumber (check (networkIn s))) 0 (and-r (isFine (sheetOf s .judged)) _ e)
 
-  started : (bs : List ℕ) → length bs ≡ 65 → startLeaves s bs ≡ bytesOf start
+  guaranteed : (qs : List Asked) → Guarantee (networkIn s) qs
+  unfolding networkIn
+  guaranteed qs = plan-campaign (sheetOf s .plan) valid-plan checked qs
+
+  -- what the check ensures of the sheet's network
+  pub passing : Passes (networkIn s)
+  unfolding networkIn
+  passing = plan-passes (sheetOf s .plan) valid-plan checked
+
+  -- the bytes after a list of calls are those of the plain machine's last state
+  pub left-final : (qs : List Asked) → leftOn s (bytesOf start) qs ≡ bytesOf (final (networkIn s) start qs)
+  left-final qs = left-is (bytesOf start) qs ∙ calls-left (networkIn s) passing start (start-sound (networkIn s) passing) qs
+
+  -- and the answer to a call after it is the machine's
+  pub answer-is : (qs : List Asked) (q : Asked) → askedCall s (leftOn s (bytesOf start) qs) q ≡ answer (networkIn s) (final (networkIn s) start qs) q
+  answer-is qs q =
+      let k = travel (networkIn s) passing start (start-sound (networkIn s) passing) qs in
+      rw (left-final qs) (call-is (bytesOf (final (networkIn s) start qs)) q ∙ call-bits (networkIn s) passing (final (networkIn s) start qs) (k .sound) q)
+
+  pub started : (bs : List ℕ) → length bs ≡ 65 → startLeaves s bs ≡ bytesOf start
   unfolding startLeaves
   started bs h = rw (e, eq-eqb (length bs) 65 h)
 

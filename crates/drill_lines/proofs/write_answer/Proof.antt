@@ -27,8 +27,8 @@ returns-3 c =
     let t = l .before .before in
     sets-same _ _ _ _ _
     (ordered _ _ (t .before .before .kind .ensures) _ _ (t .before .if1 .left) (t .if2 .left) (l .letter .ensures) (p .place2 .ensures))
-    (w .write-number .ensures .0)
-    (w .write-number .ensures .1)
+    (w .write-line .ensures .0)
+    (w .write-line .ensures .1)
 
 pub write-answer-spec : {M : Type 1} → statement M
 write-answer-spec =

@@ -1,0 +1,2 @@
+-- The laws of crate `event_lines`.
+pub mod LineLaws

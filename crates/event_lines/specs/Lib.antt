@@ -1,0 +1,2 @@
+-- The definitions of crate `event_lines`.
+pub mod Line

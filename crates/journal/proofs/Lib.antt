@@ -1,0 +1,2 @@
+-- The laws of crate `journal`.
+pub mod TurnLaws

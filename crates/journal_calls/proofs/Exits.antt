@@ -1,0 +1,46 @@
+-- What restart answers, and what it leaves, at each of its exits.
+-- Assumes nothing.
+use mathlib.Core.Path.{_≡_, ap, _∙_}
+use mathlib.Core.Bool.{true, false, not}
+use mathlib.Core.List.{List}
+use Prim.Native.Nat.{ℕ, _<_}
+use lib.Dec.{leb}
+use lib.ListN.{length}
+use native.Mathlib.Omega.{arith}
+use borrow.Author.Tests.{eq-eqb, ne-eqb, leb-true}
+use Rattle.bounded.proofs.Bools.{by-cond}
+use Rattle.network.specs.declared.Network.{Network}
+use Rattle.run.specs.Bytes.{bytesOf}
+use Rattle.guarantee.specs.Answers.{pack, unsound}
+use Rattle.calls.specs.Calls.{networkIn, checkedOf}
+use Rattle.calls.specs.declared.Checked.{Checked}
+use Rattle.calls.proofs.Exits.{fails, holds, bits-is, network-is}
+use Rattle.journal_calls.specs.Restart.{replay, linePlace, replayBits, restartCall, restarts, restartLeaves}
+use Rattle.journal_calls.specs.declared.Replayed.{Replayed}
+
+-- a line's place fits its 16 bits
+pub place-small : (i : ℕ) → linePlace i < 65536
+unfolding linePlace
+place-small i = by-cond (λ (p : ℕ). p < 65536) {t = leb i 65535} {a = i} {b = 65535} (λ e. omega (arith, leb-true i 65535 e)) (λ e. omega arith)
+
+module _ (s j bs : List ℕ) (c : Checked) (e : c ≡ checkedOf s) where
+  pub refused : not (c .passes) ≡ true → (c .bits ≡ restartCall s j bs) × (bs ≡ restartLeaves s j bs)
+  unfolding restartCall restarts restartLeaves
+  refused n = let f = fails s c e n in (rw f (bits-is s c e), rw f)
+
+  module _ (n : not (c .passes) ≡ false) where
+    pub short : (length bs ≡ 65 → ⊥) → (x : ℕ) → x ≡ pack 0 11 0 → (x ≡ restartCall s j bs) × (bs ≡ restartLeaves s j bs)
+    unfolding restartCall restarts restartLeaves unsound
+    short h x p = let f = holds s c e n in (rw (f, ne-eqb (length bs) 65 h) p, rw (f, ne-eqb (length bs) 65 h))
+
+    module _ (h : length bs ≡ 65) (t : Replayed) (et : t ≡ replay (c .network) j) where
+      replayed : t ≡ replay (networkIn s) j
+      replayed = et ∙ ap (λ (g : Network). replay g j) (network-is s c e n)
+
+      pub wrong : (t .wrong ≡ 0 → ⊥) → (p : ℕ) → p ≡ linePlace (t .wrong) → (x : ℕ) → x ≡ pack 0 12 p → (x ≡ restartCall s j bs) × (bs ≡ restartLeaves s j bs)
+      unfolding restartCall restarts restartLeaves replayBits
+      wrong z p ep x q = let f = holds s c e n in (rw (f, eq-eqb (length bs) 65 h, ← replayed, ne-eqb (t .wrong) 0 z, ← ep) q, rw (f, eq-eqb (length bs) 65 h, ← replayed, ne-eqb (t .wrong) 0 z))
+
+      pub right : t .wrong ≡ 0 → (x : ℕ) → x ≡ pack 6 0 0 → (after : List ℕ) → after ≡ bytesOf (t .run) → (x ≡ restartCall s j bs) × (after ≡ restartLeaves s j bs)
+      unfolding restartCall restarts restartLeaves replayBits
+      right z x q after w = let f = holds s c e n in (rw (f, eq-eqb (length bs) 65 h, ← replayed, eq-eqb (t .wrong) 0 z) q, rw (f, eq-eqb (length bs) 65 h, ← replayed, eq-eqb (t .wrong) 0 z) w)

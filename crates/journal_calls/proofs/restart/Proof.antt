@@ -1,0 +1,48 @@
+-- `journal_calls::restart` meets its contract.
+-- Assumes nothing.
+use native.Mathlib.Omega.{arith}
+use Rattle.calls.proofs.Exits.{bounded}
+use Rattle.journal_calls.proofs.Exits.{place-small, refused, short, wrong, right}
+use borrow.Author.Needs.{needs}
+use Rattle.journal_calls.proofs.restart.Statement.{statement}
+use Rattle.journal_calls.proofs.restart.Tie as tie
+
+returns : tie.Need-returns
+returns c = refused _ _ _ _ (c .before .before .judge-sheet .ensures) (c .if1 .taken)
+
+returns-2 : tie.Need-returns-2
+returns-2 c = let p = c .before .before in short _ _ _ _ (p .before .before .judge-sheet .ensures) (p .if1 .left) (c .before .if2 .taken) _ (c .pack .ensures)
+
+replay-requires : tie.Need-replay-requires
+replay-requires c κs = bounded _ _ (c .before .before .before .judge-sheet .ensures) (c .before .if1 .left)
+
+pack-requires-2 : tie.Need-pack-requires-2
+pack-requires-2 c κs = (omega arith, omega arith, rw (c .line-place .ensures) (place-small _))
+
+returns-3 : tie.Need-returns-3
+returns-3 c = let r = c .before .before .before in
+    let p = r .before .before in
+    wrong _ _ _ _ (p .before .before .judge-sheet .ensures) (p .if1 .left) (r .before .if2 .left) _ (r .replay .ensures) (c .before .before .if3 .taken) _ (c .before .line-place .ensures) _ (c .pack2 .ensures)
+
+returns-4 : tie.Need-returns-4
+returns-4 c = let e = c .before .before .before .before .before .before in
+    let r = e .before in
+    let p = r .before .before in
+    right _ _ _ _ (p .before .before .judge-sheet .ensures) (p .if1 .left) (r .before .if2 .left) _ (r .replay .ensures) (e .if3 .left) _ (c .pack3 .ensures) _ (c .before .before .before .store .ensures)
+
+pub restart-spec : {M : Type 1} → statement M
+restart-spec =
+    tie.close
+    (tie.spec
+    (search needs)
+    returns
+    (search needs)
+    returns-2
+    replay-requires
+    (search needs)
+    pack-requires-2
+    returns-3
+    (search needs)
+    (search needs)
+    (search needs)
+    returns-4)

@@ -1,0 +1,3 @@
+-- The definitions of crate `journal_calls`.
+pub mod Journal
+pub mod Restart

@@ -1,0 +1,2 @@
+-- The definitions of crate `stopped_campaign`.
+pub mod Stopped
