@@ -1,7 +1,8 @@
-//! The four calls on bytes, each answered with 32 bits:
+//! The six calls on bytes, each answered with 32 bits:
 //! kind × 16,777,216 + refusal × 65,536 + place.
 
 use crate::check::{self, Network};
+use crate::journal::{self, LETTERS, LINE_LENGTH};
 use crate::plan::{self, Refusal};
 use crate::run::{self, Order, State};
 
@@ -14,6 +15,7 @@ pub const CALLED_OFF: u32 = 5;
 pub const ACCEPTED: u32 = 6;
 
 const HIGHEST_BOOKING: u32 = 64;
+const HIGHEST_LINE: usize = 65_535;
 
 /// What a sheet comes to: a network to run, or a refusal among 1 to 8.
 pub type Judged = Result<Network, Refusal>;
@@ -49,6 +51,14 @@ fn unsound() -> Refusal {
 fn misfit(booking: u32) -> Refusal {
     let place = if booking <= HIGHEST_BOOKING { booking } else { 0 };
     Refusal { number: 9, place }
+}
+
+fn short_buffer() -> Refusal {
+    Refusal { number: 10, place: 0 }
+}
+
+fn wrong_line(line: usize) -> Refusal {
+    Refusal { number: 12, place: line.min(HIGHEST_LINE) as u32 }
 }
 
 fn state_of(bytes: &[u8]) -> Result<State, Refusal> {
@@ -123,6 +133,15 @@ pub fn reply_judged(judged: &Judged, bytes: &mut [u8], letter: u8, booking: u32)
     write_back(step(), bytes)
 }
 
+pub fn restart_judged(judged: &Judged, journal: &[u8], bytes: &mut [u8]) -> u32 {
+    let step = || {
+        let network = judged.as_ref().map_err(|r| *r)?;
+        state_of(bytes)?;
+        Ok((pack(ACCEPTED, 0, 0), journal::replay(network, journal).map_err(wrong_line)?))
+    };
+    write_back(step(), bytes)
+}
+
 // The calls as the dispatcher makes them.
 
 pub fn check(sheet: &[u8]) -> u32 {
@@ -139,4 +158,19 @@ pub fn next_order(sheet: &[u8], state: &mut [u8]) -> u32 {
 
 pub fn reply(sheet: &[u8], state: &mut [u8], letter: u8, booking: u32) -> u32 {
     reply_judged(&judge(sheet), state, letter, booking)
+}
+
+pub fn restart(sheet: &[u8], journal: &[u8], state: &mut [u8]) -> u32 {
+    restart_judged(&judge(sheet), journal, state)
+}
+
+pub fn journal_line(letter: u8, booking: u32, line: &mut [u8]) -> u32 {
+    if !LETTERS.contains(&letter) || !(1..=HIGHEST_BOOKING).contains(&booking) {
+        return refused(misfit(booking));
+    }
+    if line.len() < LINE_LENGTH {
+        return refused(short_buffer());
+    }
+    line[..LINE_LENGTH].copy_from_slice(&journal::write_line(letter, booking as usize));
+    pack(ACCEPTED, 0, LINE_LENGTH as u32)
 }

@@ -1,10 +1,8 @@
 //! The drill: plays a sheet against a list of replies and prints the orders.
 
 use crate::calls::{self, kind_of, place_of, refusal_of};
-use crate::plan::number_in_columns;
+use crate::journal::{read_line, LINE_LENGTH};
 use crate::run::STATE_LENGTH;
-
-const REPLY_LENGTH: usize = 6;
 
 fn order_line(answer: u32) -> String {
     let letter = match kind_of(answer) {
@@ -25,14 +23,10 @@ fn refused_line(answer: u32) -> String {
     refusal_line(refusal_of(answer), place_of(answer) as usize)
 }
 
-/// One reply: any byte, a booking in four columns, a line feed. The letter
-/// is judged later, by the call.
+/// One reply, of the form of a journal's line.
 fn read_reply(bytes: &[u8]) -> Option<(u8, u32)> {
-    let line = bytes.get(..REPLY_LENGTH)?;
-    if line[5] != b'\n' {
-        return None;
-    }
-    Some((line[0], number_in_columns(&line[1..5])? as u32))
+    let (letter, booking) = read_line(bytes.get(..LINE_LENGTH)?)?;
+    Some((letter, booking as u32))
 }
 
 /// Takes and prints orders until a wait or an end; true if the run goes on.
@@ -66,7 +60,7 @@ fn take_reply(sheet: &[u8], state: &mut [u8], replies: &mut Replies, printed: &m
             *printed += &refusal_line(1, replies.line);
             return false;
         };
-        replies.rest = &replies.rest[REPLY_LENGTH..];
+        replies.rest = &replies.rest[LINE_LENGTH..];
         let answer = calls::reply(sheet, state, letter, booking);
         if kind_of(answer) == calls::ACCEPTED {
             return true;

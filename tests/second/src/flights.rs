@@ -1,4 +1,5 @@
-//! Named sheets with their verdicts, and states that break one sentence each.
+//! Named sheets with their verdicts, states that break one sentence each, and
+//! journals with what follows from them.
 
 use crate::plan::{self, Kind, Plan};
 use crate::run::{State, STATE_LENGTH};
@@ -205,6 +206,157 @@ pub fn unsound_states() -> Vec<Unsound> {
     ]
 }
 
+/// A sheet for each refusal, 1 to 8, with its verdict.
+pub fn refused_sheets() -> Vec<(&'static str, Vec<u8>, (u32, u32))> {
+    let refused = named().into_iter().chain(boundaries()).filter(|flight| flight.verdict != (0, 0));
+    let mut sheets: Vec<_> = refused.map(|flight| (flight.name, flight.sheet, flight.verdict)).collect();
+    let out_of_sequence = b"P   1   0   1\nB   2 C\nA   1   1\n";
+    sheets.push(("number out of sequence", out_of_sequence.to_vec(), (3, 2)));
+    sheets
+}
+
+/// A journal and what restart makes of it: the state, or the first wrong line.
+pub struct Journal {
+    pub plan: Plan,
+    pub text: Vec<u8>,
+    pub result: Result<State, u32>,
+}
+
+/// The lines of words like Q1 or Y12.
+fn lines(words: &str) -> Vec<u8> {
+    let line = |word: &str| format!("{}{:>4}\n", &word[..1], &word[1..]);
+    words.split_whitespace().flat_map(|word| line(word).into_bytes()).collect()
+}
+
+fn right(plan: &Plan, words: &str, state: &[u8]) -> Journal {
+    Journal { plan: plan.clone(), text: lines(words), result: Ok(state_of(state)) }
+}
+
+fn wrong(plan: &Plan, words: &str, line: u32) -> Journal {
+    Journal { plan: plan.clone(), text: lines(words), result: Err(line) }
+}
+
+/// Journals from the start on, each going on where the one above it ends: the
+/// new words, and the first bytes of the state after them.
+fn step_by_step(plan: &Plan, steps: &[(&str, &[u8])]) -> Vec<Journal> {
+    let upto = |last: usize| steps[..=last].iter().map(|step| step.0).collect::<Vec<_>>().join(" ");
+    (0..steps.len()).map(|last| right(plan, &upto(last), steps[last].1)).collect()
+}
+
+/// The Tanker's drill; one that is refused when a pivot or a request is open;
+/// returns that are kept; one that repeats and returns.
+fn right_journals() -> Vec<Journal> {
+    let drill: [(&str, &[u8]); 11] = [
+        ("", &[1, 0, 0, 0, 0]),
+        ("Q1", &[1, 1, 0, 0, 0]),
+        ("Y1", &[1, 2, 0, 0, 0]),
+        ("Q2", &[1, 2, 1, 0, 0]),
+        ("Y2", &[1, 2, 2, 0, 0]),
+        ("Q3", &[1, 2, 2, 1, 0]),
+        ("N3", &[2, 2, 2, 3, 0]),
+        ("Q4", &[2, 2, 2, 3, 1]),
+        ("N4", &[2, 2, 2, 3, 0]),
+        ("Q4", &[2, 2, 2, 3, 1]),
+        ("Y4", &[2, 2, 2, 3, 2]),
+    ];
+    let refused_tanker: [(&str, &[u8]); 4] =
+        [("Q1 Y1 Q2 N2", &[0, 2, 3]), ("U1", &[0, 4, 3]), ("K1", &[0, 2, 3]), ("U1 G1", &[0, 0, 3])];
+    let open_request: [(&str, &[u8]); 5] = [
+        ("Q1 Q2", &[1, 1, 1]),
+        ("N1", &[1, 3, 1]),
+        ("N2", &[2, 3, 0]),
+        ("Q2", &[2, 3, 1]),
+        ("Y2", &[2, 3, 2]),
+    ];
+    let chase_back: [(&str, &[u8]); 9] = [
+        ("Q1 Q2", &[1, 1, 1]),
+        ("N2", &[1, 1, 0]),
+        ("Q2 Y1", &[1, 2, 1]),
+        ("Q3", &[1, 2, 1, 1]),
+        ("Y2 N3", &[2, 2, 2, 3]),
+        ("U2", &[2, 2, 4, 3]),
+        ("K2 U2 G2", &[2, 2, 0, 3]),
+        ("Q4", &[2, 2, 0, 3, 1]),
+        ("Y4", &[2, 2, 0, 3, 2]),
+    ];
+    let pivot_and_repeatable = plan_of("PR", &[], &[&[1, 2], &[2]]);
+    let mut journals = step_by_step(&tanker(), &drill);
+    journals.extend(step_by_step(&tanker(), &refused_tanker));
+    journals.extend(step_by_step(&pivot_and_repeatable, &open_request));
+    journals.extend(step_by_step(&chase('D'), &chase_back));
+    journals
+}
+
+/// Orders that were not due, replies that do not fit, lines of other letters.
+fn wrong_journals() -> Vec<Journal> {
+    let (tanker, chase) = (tanker(), chase('D'));
+    vec![
+        wrong(&tanker, "Q2", 1),
+        wrong(&tanker, "U1", 1),
+        wrong(&tanker, "Y1", 1),
+        wrong(&tanker, "Q0", 1),
+        wrong(&tanker, "Q5", 1),
+        wrong(&tanker, "Q65", 1),
+        wrong(&tanker, "Q257", 1),
+        wrong(&tanker, "q1", 1),
+        wrong(&tanker, "W0", 1),
+        wrong(&tanker, "Q1 W0 Y1", 2),
+        wrong(&tanker, "Q1 Q1", 2),
+        wrong(&tanker, "Q1 Q2", 2),
+        wrong(&tanker, "Q1 G1", 2),
+        wrong(&tanker, "Q1 y1", 2),
+        wrong(&tanker, "Q1 Y2 Y1", 2),
+        wrong(&tanker, "Q1 Y1 Y1", 3),
+        wrong(&tanker, "Q1 N1 Q1", 3),
+        wrong(&tanker, "Q1 N1 O0", 3),
+        wrong(&tanker, "Q1 Y1 Q2 N2 U1 Y1", 6),
+        wrong(&tanker, "Q1 Y1 Q2 Y2 Q3 N3 Q3", 7),
+        wrong(&tanker, "Q1 Y1 Q2 Y2 Q3 N3 U1", 7),
+        wrong(&tanker, "Q1 Y1 Q2 Y2 Q3 N3 Q4 N4 Q4 Y4 E2", 11),
+        wrong(&tanker, "Q1 Y1 Q2 Y2 Q3 N3 Q4 N4 Q4 Y4 Q3", 11),
+        wrong(&tanker, "Q1 Y1 Q2 Y2 Q3 N3 Q4 N4 N4 Y4", 9),
+        wrong(&chase, "Q1 Y1 Q3", 3),
+        wrong(&chase, "Q1 Q2 Y1 Q3 Y2 N3 Q4", 7),
+        wrong(&chase, "Q1 Q2 Y1 Q3 Y2 N3 U1", 7),
+        wrong(&plan_of("PR", &[], &[&[1, 2], &[2]]), "Q1 Q2 N1 Q2", 4),
+    ]
+}
+
+/// Lines that are not of their form, and tails, which are never looked at.
+fn odd_journals() -> Vec<Journal> {
+    let results: [(&[u8], Result<&[u8], u32>); 19] = [
+        (b"Q", Ok(&[1])),
+        (b"Q   1", Ok(&[1])),
+        (b"?????", Ok(&[1])),
+        (b"Q   1\nY   ", Ok(&[1, 1])),
+        (b"Q   1\nQ   2", Ok(&[1, 1])),
+        (b"Q   1\nY   1\n\n", Ok(&[1, 2])),
+        (b"Q  01\n", Err(1)),
+        (b"Q0001\n", Err(1)),
+        (b"Q1   \n", Err(1)),
+        (b"Q  1 \n", Err(1)),
+        (b"Q    \n", Err(1)),
+        (b"Q  +1\n", Err(1)),
+        (b"Q   1 ", Err(1)),
+        (b"Q   1\r", Err(1)),
+        (b"\nQ   1\n", Err(1)),
+        (b"Q   1\n\nY   1\n", Err(2)),
+        (b"Q   1\nY   1 \n", Err(2)),
+        (b"Q   1\nY 1 1\n", Err(2)),
+        (b"Q   1\nY   1\nQ  02\nY   2\n", Err(3)),
+    ];
+    let journal = |(text, result): (&[u8], Result<&[u8], u32>)| Journal {
+        plan: tanker(),
+        text: text.to_vec(),
+        result: result.map(state_of),
+    };
+    results.into_iter().map(journal).collect()
+}
+
+pub fn journals() -> Vec<Journal> {
+    right_journals().into_iter().chain(wrong_journals()).chain(odd_journals()).collect()
+}
+
 #[cfg(test)]
 mod tests {
     use super::*;
@@ -363,5 +515,61 @@ mod tests {
         assert_eq!(drill(&sheet, b"Y   1"), "Q   1\nW   0\nX   1     1\n");
         let unlinked = plan::write(&plan_of("PP", &[], &[&[1, 2]]));
         assert_eq!(drill(unlinked.as_bytes(), b"Y   1\n"), "X   8   257\n");
+    }
+
+    #[test]
+    fn journals_have_the_written_results() {
+        for Journal { plan, text, result } in journals() {
+            let mut state = [9; STATE_LENGTH];
+            let answer = calls::restart(&sheet(&plan), &text, &mut state);
+            let told = text.escape_ascii();
+            match result {
+                Ok(due) => assert_eq!((answer, state), (pack(ACCEPTED, 0, 0), due), "{told}"),
+                Err(line) => assert_eq!((answer, state), (pack(REFUSED, 12, line), [9; 65]), "{told}"),
+            }
+        }
+    }
+
+    #[test]
+    fn restart_judges_sheet_then_length_then_journal() {
+        let (good, bad) = (sheet(&tanker()), sheet(&plan_of("PP", &[], &[&[1, 2]])));
+        for length in [0, 1, 64, 66, 200] {
+            for journal in [&b""[..], b"Q   1\n", b"Y   1\n", b"Q  "] {
+                let mut state = vec![1; length];
+                assert_eq!(calls::restart(&bad, journal, &mut state), pack(0, 8, 257));
+                assert_eq!(calls::restart(&good, journal, &mut state), pack(0, 11, 0));
+                assert_eq!(state, vec![1; length]);
+            }
+        }
+    }
+
+    #[test]
+    fn a_wrong_line_beyond_65535_is_65535() {
+        let sheet = sheet(&plan_of("R", &[], &[&[1]]));
+        for (lines, place) in [(65_534, 65_534), (65_535, 65_535), (65_536, 65_535), (70_000, 65_535)] {
+            let mut journal = b"Q   1\nN   1\n".repeat(35_000);
+            journal[lines * 6 - 6] = b'?';
+            assert_eq!(calls::restart(&sheet, &journal, &mut [1; 65]), pack(0, 12, place));
+        }
+    }
+
+    #[test]
+    fn journal_lines_in_full() {
+        let write = |letter, booking| {
+            let mut line = *b"abcdefgh";
+            (calls::journal_line(letter, booking, &mut line), line)
+        };
+        assert_eq!(write(b'Q', 1), (pack(6, 0, 6), *b"Q   1\ngh"));
+        assert_eq!(write(b'U', 64), (pack(6, 0, 6), *b"U  64\ngh"));
+        assert_eq!(write(b'K', 10), (pack(6, 0, 6), *b"K  10\ngh"));
+        for (letter, booking, place) in
+            [(b'q', 1, 1), (b'W', 0, 0), (b'Q', 0, 0), (b'Y', 65, 0), (b'E', 64, 64), (b'N', 257, 0)]
+        {
+            assert_eq!(write(letter, booking), (pack(0, 9, place), *b"abcdefgh"));
+            assert_eq!(calls::journal_line(letter, booking, &mut []), pack(0, 9, place));
+        }
+        let mut short = *b"abcde";
+        assert_eq!(calls::journal_line(b'Q', 1, &mut short), pack(0, 10, 0));
+        assert_eq!(short, *b"abcde");
     }
 }

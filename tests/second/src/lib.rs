@@ -10,5 +10,6 @@ pub mod dice;
 pub mod drill;
 pub mod flights;
 pub mod generate;
+pub mod journal;
 pub mod plan;
 pub mod run;
