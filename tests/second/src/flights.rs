@@ -243,8 +243,8 @@ fn step_by_step(plan: &Plan, steps: &[(&str, &[u8])]) -> Vec<Journal> {
     (0..steps.len()).map(|last| right(plan, &upto(last), steps[last].1)).collect()
 }
 
-/// The Tanker's drill; one that is refused when a pivot or a request is open;
-/// returns that are kept; one that repeats and returns.
+/// The Tanker's drill; its tanker refused, and a return kept; a pivot refused
+/// while a request is open; a chase aircraft that repeats and returns.
 fn right_journals() -> Vec<Journal> {
     let drill: [(&str, &[u8]); 11] = [
         ("", &[1, 0, 0, 0, 0]),
@@ -322,39 +322,51 @@ fn wrong_journals() -> Vec<Journal> {
     ]
 }
 
-/// Lines that are not of their form, and tails, which are never looked at.
-fn odd_journals() -> Vec<Journal> {
-    let results: [(&[u8], Result<&[u8], u32>); 19] = [
-        (b"Q", Ok(&[1])),
-        (b"Q   1", Ok(&[1])),
-        (b"?????", Ok(&[1])),
-        (b"Q   1\nY   ", Ok(&[1, 1])),
-        (b"Q   1\nQ   2", Ok(&[1, 1])),
-        (b"Q   1\nY   1\n\n", Ok(&[1, 2])),
-        (b"Q  01\n", Err(1)),
-        (b"Q0001\n", Err(1)),
-        (b"Q1   \n", Err(1)),
-        (b"Q  1 \n", Err(1)),
-        (b"Q    \n", Err(1)),
-        (b"Q  +1\n", Err(1)),
-        (b"Q   1 ", Err(1)),
-        (b"Q   1\r", Err(1)),
-        (b"\nQ   1\n", Err(1)),
-        (b"Q   1\n\nY   1\n", Err(2)),
-        (b"Q   1\nY   1 \n", Err(2)),
-        (b"Q   1\nY 1 1\n", Err(2)),
-        (b"Q   1\nY   1\nQ  02\nY   2\n", Err(3)),
+/// Tails of one to five bytes, which are never looked at.
+fn journals_with_tails() -> Vec<Journal> {
+    let tails: [(&[u8], &[u8]); 6] = [
+        (b"Q", &[1]),
+        (b"Q   1", &[1]),
+        (b"?????", &[1]),
+        (b"Q   1\nY   ", &[1, 1]),
+        (b"Q   1\nQ   2", &[1, 1]),
+        (b"Q   1\nY   1\n\n", &[1, 2]),
     ];
-    let journal = |(text, result): (&[u8], Result<&[u8], u32>)| Journal {
+    let journal = |(text, state): (&[u8], &[u8])| Journal {
         plan: tanker(),
         text: text.to_vec(),
-        result: result.map(state_of),
+        result: Ok(state_of(state)),
     };
-    results.into_iter().map(journal).collect()
+    tails.into_iter().map(journal).collect()
+}
+
+/// Lines that are not of their form.
+fn misformed_journals() -> Vec<Journal> {
+    let wrong: [(&[u8], u32); 13] = [
+        (b"Q  01\n", 1),
+        (b"Q0001\n", 1),
+        (b"Q1   \n", 1),
+        (b"Q  1 \n", 1),
+        (b"Q    \n", 1),
+        (b"Q  +1\n", 1),
+        (b"Q   1 ", 1),
+        (b"Q   1\r", 1),
+        (b"\nQ   1\n", 1),
+        (b"Q   1\n\nY   1\n", 2),
+        (b"Q   1\nY   1 \n", 2),
+        (b"Q   1\nY 1 1\n", 2),
+        (b"Q   1\nY   1\nQ  02\nY   2\n", 3),
+    ];
+    let journal =
+        |(text, line): (&[u8], u32)| Journal { plan: tanker(), text: text.to_vec(), result: Err(line) };
+    wrong.into_iter().map(journal).collect()
 }
 
 pub fn journals() -> Vec<Journal> {
-    right_journals().into_iter().chain(wrong_journals()).chain(odd_journals()).collect()
+    [right_journals(), journals_with_tails(), wrong_journals(), misformed_journals()]
+        .into_iter()
+        .flatten()
+        .collect()
 }
 
 #[cfg(test)]
