@@ -1,10 +1,11 @@
-//! Wrong versions of the four calls: the comparison must find each.
+//! Wrong versions of the six calls: the comparison must find each.
 
 use second::calls::{self, kind_of, pack, place_of, refusal_of};
 use second::check::{self, Network};
-use second::comparison::{Campaign, Comparison};
+use second::comparison::{Campaign, Comparison, Outcome};
+use second::journal::{self, LINE_LENGTH};
 use second::plan::{self, Kind};
-use second::run::{self, State};
+use second::run::{self, Order, State};
 
 /// The second version itself, but for one fault.
 #[derive(Clone, Copy, Debug)]
@@ -37,6 +38,36 @@ enum Fault {
     DIsLost,
     ReturningDIsUnsound,
     DIsNeverReturned,
+    LinesCountedFrom0,
+    TailIsALine,
+    AnyOrderIsDue,
+    AnyBookingIsDue,
+    AnyLetterOfOrderIsDue,
+    WrongLineBeforeUnsound,
+    WrongLineChangesState,
+    PlaceOfLineWraps,
+    PlaceOfLineOverflows,
+    MisfitLineIsPassedOver,
+    OddLetterIsPassedOver,
+    LineFeedIsNotLookedAt,
+    LeadingZerosAreRead,
+    SmallLettersAreRead,
+    BlankInANumberIsPassedOver,
+    LastLineIsDropped,
+    ReplayEndsWithALostWay,
+    ReplayReturnsInAnyOrder,
+    ReplayHasNoThirdWay,
+    RestartGoesOnFromTheState,
+    RestartWantsASoundState,
+    RestartKeepsBytesPastBookings,
+    EmptyJournalIsWrong,
+    LineIsPaddedWithZeros,
+    LineIsLeftJustified,
+    LineTakesBooking65,
+    LineTakesAnyLetter,
+    LineWritesOneByteMore,
+    ShortLineBeforeMisfit,
+    PlaceOfLinesAbove64,
 }
 
 struct Faulty(Fault);
@@ -107,6 +138,121 @@ fn sound_but(network: &Network, state: &[u8], dropped: usize) -> Option<State> {
 
 fn firm_held(network: &Network, state: &[u8]) -> bool {
     network.plan.bookings().any(|b| state[b] == run::HELD && network.plan.kind(b).is_firm())
+}
+
+/// What a faulty reader makes of a line.
+fn line_as_read(fault: Fault, line: &[u8]) -> Option<(u8, usize)> {
+    let mut line = line.to_vec();
+    match fault {
+        Fault::LineFeedIsNotLookedAt => line[5] = b'\n',
+        Fault::SmallLettersAreRead => line[0] = line[0].to_ascii_uppercase(),
+        Fault::LeadingZerosAreRead => {
+            let leading = line[1..4].iter_mut().take_while(|byte| b" 0".contains(byte));
+            leading.for_each(|byte| *byte = b' ');
+        }
+        Fault::BlankInANumberIsPassedOver if line[2] != b' ' && line[3] == b' ' => {
+            line[1..4].rotate_right(1);
+        }
+        _ => {}
+    }
+    journal::read_line(&line)
+}
+
+/// The state after a line for a version that takes some wrong orders.
+fn after_faulty_order(fault: Fault, network: &Network, state: State, order: Order) -> Option<State> {
+    let (due, after) = run::next_order(network, state);
+    let taken = match (order, due) {
+        (Order::Request(_), Order::Request(_)) | (Order::Return(_), Order::Return(_)) => {
+            matches!(fault, Fault::AnyBookingIsDue)
+        }
+        (Order::Request(one), Order::Return(other)) | (Order::Return(one), Order::Request(other)) => {
+            matches!(fault, Fault::AnyLetterOfOrderIsDue) && one == other
+        }
+        _ => false,
+    };
+    match (fault, order) {
+        _ if order == due || taken => Some(after),
+        (Fault::AnyOrderIsDue, _) => Some(state),
+        (Fault::ReplayReturnsInAnyOrder, Order::Return(b)) if matches!(due, Order::Return(_)) => {
+            (state.get(b) == Some(&run::HELD) && !network.plan.is_in_way(b, state[0].into())).then(|| {
+                let mut after = state;
+                after[b] = run::RETURNING;
+                after
+            })
+        }
+        _ => None,
+    }
+}
+
+fn after_faulty_line(fault: Fault, network: &Network, state: State, line: &[u8]) -> Option<State> {
+    let (letter, booking) = line_as_read(fault, line)?;
+    match letter {
+        b'Q' => after_faulty_order(fault, network, state, Order::Request(booking)),
+        b'U' => after_faulty_order(fault, network, state, Order::Return(booking)),
+        b'Y' | b'N' | b'G' | b'K' => match run::reply(network, state, letter, booking) {
+            None if matches!(fault, Fault::MisfitLineIsPassedOver) => Some(state),
+            after => after,
+        },
+        b'W' | b'E' | b'O' | b'X' if matches!(fault, Fault::OddLetterIsPassedOver) => Some(state),
+        _ => None,
+    }
+}
+
+/// What else a faulty replay does to the state after a line.
+fn after_faulty_replay(fault: Fault, network: &Network, before: &State, mut state: State) -> State {
+    let requested = network.plan.bookings().any(|b| state[b] == run::REQUESTED);
+    let lost = network.plan.way(state[0].into()).iter().any(|&b| state[b] == run::LOST);
+    match fault {
+        Fault::ReplayEndsWithALostWay if lost && requested => state[0] = 0,
+        Fault::ReplayHasNoThirdWay if before[0] == 2 && state[0] == 3 => state[0] = 0,
+        _ => {}
+    }
+    state
+}
+
+/// A replay with a fault in it; of a wrong line also the state before it.
+fn faulty_replay(
+    fault: Fault,
+    network: &Network,
+    from: State,
+    journal: &[u8],
+) -> Result<State, (usize, State)> {
+    let mut state = from;
+    for (at, line) in journal.chunks_exact(LINE_LENGTH).enumerate() {
+        let after = after_faulty_line(fault, network, state, line).ok_or((at + 1, state))?;
+        state = after_faulty_replay(fault, network, &state, after);
+    }
+    Ok(state)
+}
+
+/// The lines that a version takes for the journal's.
+fn journal_as_taken(fault: Fault, journal: &[u8]) -> Vec<u8> {
+    let whole = journal.len() - journal.len() % LINE_LENGTH;
+    match fault {
+        Fault::LastLineIsDropped if whole > 0 => journal[..whole - LINE_LENGTH].to_vec(),
+        Fault::TailIsALine if whole < journal.len() => [&journal[..whole], &b"??????"[..]].concat(),
+        Fault::EmptyJournalIsWrong if journal.is_empty() => b"??????".to_vec(),
+        _ => journal.to_vec(),
+    }
+}
+
+fn place_of_line(fault: Fault, line: usize) -> u32 {
+    match fault {
+        Fault::LinesCountedFrom0 => (line - 1).min(65_535) as u32,
+        Fault::PlaceOfLineWraps => line as u32 % 65_536,
+        Fault::PlaceOfLineOverflows => line as u32,
+        _ => line.min(65_535) as u32,
+    }
+}
+
+/// The text of a line, as some would write it.
+fn faulty_line(fault: Fault, letter: u8, booking: u32) -> Vec<u8> {
+    let columns = match fault {
+        Fault::LineIsPaddedWithZeros => format!("{booking:04}\n"),
+        Fault::LineIsLeftJustified => format!("{booking:<4}\n"),
+        _ => format!("{booking:4}\n"),
+    };
+    [&[letter], columns.as_bytes()].concat()
 }
 
 impl Faulty {
@@ -222,13 +368,69 @@ impl Campaign for Faulty {
         }
         answer
     }
+
+    fn restart(&self, sheet: &[u8], journal: &[u8], state: &mut [u8]) -> u32 {
+        let Ok(network) = calls::judge(sheet) else { return calls::check(sheet) };
+        let journal = journal_as_taken(self.0, journal);
+        let (mut from, length) = (run::start(), state.len());
+        if length == 65 {
+            match self.0 {
+                Fault::RestartGoesOnFromTheState if journal.len() < LINE_LENGTH => {
+                    from.copy_from_slice(state)
+                }
+                Fault::RestartWantsASoundState if sound_but(&network, state, 99).is_none() => {
+                    return pack(0, 11, 0)
+                }
+                Fault::RestartKeepsBytesPastBookings => from[60..].copy_from_slice(&state[60..]),
+                _ => {}
+            }
+        } else if !matches!(self.0, Fault::WrongLineBeforeUnsound) {
+            return pack(0, 11, 0);
+        }
+        match faulty_replay(self.0, &network, from, &journal) {
+            Err((line, before)) => {
+                if matches!(self.0, Fault::WrongLineChangesState) {
+                    state.copy_from_slice(&before);
+                }
+                pack(0, 12, place_of_line(self.0, line))
+            }
+            Ok(_) if length != 65 => pack(0, 11, 0),
+            Ok(after) => {
+                state.copy_from_slice(&after);
+                pack(6, 0, 0)
+            }
+        }
+    }
+
+    fn journal_line(&self, letter: u8, booking: u32, line: &mut [u8]) -> u32 {
+        let mut right = [0; LINE_LENGTH];
+        let answer = calls::journal_line(letter, booking, &mut right);
+        let taken = match self.0 {
+            Fault::LineTakesBooking65 => booking == 65 && b"QUYNGK".contains(&letter),
+            Fault::LineTakesAnyLetter => (1..=64).contains(&booking),
+            _ => false,
+        };
+        match self.0 {
+            Fault::ShortLineBeforeMisfit if line.len() < LINE_LENGTH => return pack(0, 10, 0),
+            Fault::PlaceOfLinesAbove64 if kind_of(answer) == 0 => return pack(0, 9, booking & 65_535),
+            _ if kind_of(answer) == 0 && !taken => return answer,
+            _ if line.len() < LINE_LENGTH => return pack(0, 10, 0),
+            _ => {}
+        }
+        line[..LINE_LENGTH].copy_from_slice(&faulty_line(self.0, letter, booking));
+        if matches!(self.0, Fault::LineWritesOneByteMore) && line.len() > LINE_LENGTH {
+            line[LINE_LENGTH] = 0;
+        }
+        pack(6, 0, 6)
+    }
 }
 
-/// Compares until something differs, for a few hundred rounds at most.
-fn is_found(fault: Fault) -> bool {
+/// Compares until something differs: a fixed part first, then a few hundred
+/// rounds at most.
+fn is_found_by(fault: Fault, fixed: fn(&mut Comparison) -> Outcome) -> bool {
     let faulty = Faulty(fault);
     let mut comparison = Comparison::new(&faulty, false);
-    let mut compared = comparison.fixed_part(1);
+    let mut compared = fixed(&mut comparison);
     for round in 0..300 {
         if compared.is_ok() && round % 16 != 15 {
             compared = comparison.round(1, round);
@@ -237,9 +439,69 @@ fn is_found(fault: Fault) -> bool {
     compared.is_err()
 }
 
+fn is_found(fault: Fault) -> bool {
+    is_found_by(fault, |comparison| comparison.fixed_part(1))
+}
+
+fn is_found_by_journals(fault: Fault) -> bool {
+    is_found_by(fault, |comparison| comparison.journals(1, 0))
+}
+
 #[test]
 fn the_second_version_does_not_differ_from_itself() {
     assert!(!is_found(Fault::None));
+}
+
+#[test]
+fn its_journals_do_not_differ_either() {
+    assert!(!is_found_by_journals(Fault::None));
+}
+
+#[test]
+fn wrong_restarts_are_found() {
+    use Fault::*;
+    let places = [LinesCountedFrom0, PlaceOfLineWraps, PlaceOfLineOverflows];
+    let lines = [
+        TailIsALine,
+        LastLineIsDropped,
+        EmptyJournalIsWrong,
+        AnyOrderIsDue,
+        AnyBookingIsDue,
+        AnyLetterOfOrderIsDue,
+        MisfitLineIsPassedOver,
+        OddLetterIsPassedOver,
+        LineFeedIsNotLookedAt,
+        LeadingZerosAreRead,
+        SmallLettersAreRead,
+        BlankInANumberIsPassedOver,
+    ];
+    let replays = [ReplayEndsWithALostWay, ReplayReturnsInAnyOrder, ReplayHasNoThirdWay];
+    let states = [
+        WrongLineBeforeUnsound,
+        WrongLineChangesState,
+        RestartGoesOnFromTheState,
+        RestartWantsASoundState,
+        RestartKeepsBytesPastBookings,
+    ];
+    for fault in places.into_iter().chain(lines).chain(replays).chain(states) {
+        assert!(is_found_by_journals(fault), "{fault:?}");
+    }
+}
+
+#[test]
+fn wrong_lines_are_found() {
+    use Fault::*;
+    for fault in [
+        LineIsPaddedWithZeros,
+        LineIsLeftJustified,
+        LineTakesBooking65,
+        LineTakesAnyLetter,
+        LineWritesOneByteMore,
+        ShortLineBeforeMisfit,
+        PlaceOfLinesAbove64,
+    ] {
+        assert!(is_found_by_journals(fault), "{fault:?}");
+    }
 }
 
 #[test]

@@ -27,6 +27,17 @@ mod library {
             letter: u8,
             booking: u32,
         ) -> u32;
+        #[cfg(feature = "run")]
+        pub fn campaign_journal_line(letter: u8, booking: u32, line: *mut u8, line_len: usize) -> u32;
+        #[cfg(feature = "run")]
+        pub fn campaign_restart(
+            sheet: *const u8,
+            sheet_len: usize,
+            journal: *const u8,
+            journal_len: usize,
+            state: *mut u8,
+            state_len: usize,
+        ) -> u32;
     }
 }
 
@@ -51,6 +62,16 @@ impl Campaign for Real {
         let (start, length) = (state.as_mut_ptr(), state.len());
         unsafe { library::campaign_reply(sheet.as_ptr(), sheet.len(), start, length, letter, booking) }
     }
+
+    fn restart(&self, sheet: &[u8], journal: &[u8], state: &mut [u8]) -> u32 {
+        let (start, length) = (state.as_mut_ptr(), state.len());
+        let (lines, lines_length) = (journal.as_ptr(), journal.len());
+        unsafe { library::campaign_restart(sheet.as_ptr(), sheet.len(), lines, lines_length, start, length) }
+    }
+
+    fn journal_line(&self, letter: u8, booking: u32, line: &mut [u8]) -> u32 {
+        unsafe { library::campaign_journal_line(letter, booking, line.as_mut_ptr(), line.len()) }
+    }
 }
 
 // A library with check alone: the other calls are never made.
@@ -71,6 +92,14 @@ impl Campaign for Real {
     fn reply(&self, _: &[u8], _: &mut [u8], _: u8, _: u32) -> u32 {
         unreachable!()
     }
+
+    fn restart(&self, _: &[u8], _: &[u8], _: &mut [u8]) -> u32 {
+        unreachable!()
+    }
+
+    fn journal_line(&self, _: u8, _: u32, _: &mut [u8]) -> u32 {
+        unreachable!()
+    }
 }
 
 struct Options {
@@ -80,6 +109,9 @@ struct Options {
     seconds: Option<u64>,
     check_only: bool,
 }
+
+/// So many restarts are compared before the rounds, however long it takes.
+const FEWEST_JOURNALS: u64 = 120_000;
 
 const USAGE: &str = "usage: compare [--check-only] [--seconds N] [--rounds N] [--seed N] [--from-round N]";
 
@@ -107,12 +139,15 @@ fn options() -> Option<Options> {
     Some(options)
 }
 
-/// The fixed part, then rounds until their number or the time is used up.
+/// The fixed part, the journals, then rounds until their number or the time is used up.
 fn compare(comparison: &mut Comparison, options: &Options) -> Outcome<u64> {
     let began = Instant::now();
     comparison.fixed_part(options.seed)?;
-    let fixed = began.elapsed();
-    println!("fixed part: {:.1} s", fixed.as_secs_f64());
+    println!("fixed part: {:.1} s", began.elapsed().as_secs_f64());
+    if !options.check_only {
+        comparison.journals(options.seed, FEWEST_JOURNALS)?;
+        println!("with the journals: {:.1} s", began.elapsed().as_secs_f64());
+    }
     let time = options.seconds.map(Duration::from_secs);
     let mut made = 0;
     while options.rounds.is_none_or(|most| made < most) && time.is_none_or(|most| began.elapsed() < most) {

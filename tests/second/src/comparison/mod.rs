@@ -1,9 +1,13 @@
-//! The comparison of a first version of the four calls with this one: the
+//! The comparison of a first version of the six calls with this one: the
 //! same 32 bits, the same bytes of state, and no other byte changed.
 
+mod damage;
 mod every;
+pub mod journals;
 mod ledger;
 mod lent;
+mod lines;
+mod record;
 pub mod sheets;
 mod tally;
 pub mod walks;
@@ -12,6 +16,7 @@ use crate::calls::{self, Judged};
 use crate::check::Network;
 use crate::dice::Dice;
 use crate::generate::{self, LIMITS, MIDDLE, SMALL};
+use crate::journal::LINE_LENGTH;
 use crate::plan;
 use lent::Lent;
 use tally::Tally;
@@ -22,11 +27,14 @@ pub trait Campaign {
     fn start(&self, sheet: &[u8], state: &mut [u8]) -> u32;
     fn next_order(&self, sheet: &[u8], state: &mut [u8]) -> u32;
     fn reply(&self, sheet: &[u8], state: &mut [u8], letter: u8, booking: u32) -> u32;
+    fn restart(&self, sheet: &[u8], journal: &[u8], state: &mut [u8]) -> u32;
+    fn journal_line(&self, letter: u8, booking: u32, line: &mut [u8]) -> u32;
 }
 
 /// Nothing to say, or what differs.
 pub type Outcome<T = ()> = Result<T, String>;
 
+/// The calls that a walk is made of.
 #[derive(Clone, Copy, Debug, PartialEq, Eq)]
 pub enum Call {
     Check,
@@ -63,14 +71,22 @@ pub struct Comparison<'a> {
     pub tally: Tally,
     /// What is being compared, for the report.
     pub part: String,
-    /// The calls since the last check or start.
+    /// The calls since the last check, start or restart.
     history: Vec<(Call, u32)>,
+    /// The journal of the last restart, if no check or start came after it.
+    journal: Option<Vec<u8>>,
+}
+
+/// What a version answered and the state it left.
+struct Said<'a> {
+    answer: u32,
+    state: &'a [u8],
 }
 
 impl<'a> Comparison<'a> {
     pub fn new(first: &'a dyn Campaign, check_only: bool) -> Comparison<'a> {
-        let (tally, part, history) = (Tally::default(), String::new(), Vec::new());
-        Comparison { first, check_only, tally, part, history }
+        let (tally, part) = (Tally::default(), String::new());
+        Comparison { first, check_only, tally, part, history: Vec::new(), journal: None }
     }
 
     /// Makes one call with both versions. Gives the answer of the first and
@@ -80,28 +96,60 @@ impl<'a> Comparison<'a> {
         let expected = second_answer(&case.judged, &mut expected_state, call);
         let mut lent = Lent::new(state);
         let answer = self.first_answer(case.sheet.bytes(), lent.bytes_mut(), call);
-        self.tally.note(call, answer);
+        self.tally.note(name_of(call), answer);
         if call == Call::Check || call == Call::Start {
-            self.history.clear();
+            self.begin(None);
         }
         self.history.push((call, answer));
         let whole = lent.guards_are_whole() && case.sheet.is_whole();
-        if answer == expected && lent.bytes() == expected_state && whole {
-            *state = expected_state;
-            return Ok(answer);
+        let first = Said { answer, state: lent.bytes() };
+        self.settle(case, state, first, Said { answer: expected, state: &expected_state }, whole)
+    }
+
+    /// Restarts with both versions, as `call` makes a call.
+    fn restart(&mut self, case: &Case, journal: &Lent, state: &mut Vec<u8>) -> Outcome<u32> {
+        let mut expected_state = state.clone();
+        let expected = calls::restart_judged(&case.judged, journal.bytes(), &mut expected_state);
+        let mut lent = Lent::new(state);
+        let answer = self.first.restart(case.sheet.bytes(), journal.bytes(), lent.bytes_mut());
+        self.tally.note("restart", answer);
+        self.begin(Some(journal.bytes().to_vec()));
+        let whole = lent.guards_are_whole() && case.sheet.is_whole() && journal.is_whole();
+        let first = Said { answer, state: lent.bytes() };
+        self.settle(case, state, first, Said { answer: expected, state: &expected_state }, whole)
+    }
+
+    /// A campaign begins, with this journal if with any.
+    fn begin(&mut self, journal: Option<Vec<u8>>) {
+        self.history.clear();
+        self.journal = journal;
+    }
+
+    /// Takes over what both versions said, or tells what differs.
+    fn settle(
+        &self,
+        case: &Case,
+        state: &mut Vec<u8>,
+        first: Said,
+        second: Said,
+        whole: bool,
+    ) -> Outcome<u32> {
+        if first.answer == second.answer && first.state == second.state && whole {
+            *state = second.state.to_vec();
+            return Ok(first.answer);
         }
         let mut told = format!(
             "first version: {}\nstate after:   {}\n",
-            shown_answer(answer),
-            shown_state(lent.bytes())
+            shown_answer(first.answer),
+            shown_state(first.state)
         );
         told += &format!(
             "second version: {}\nstate after:    {}\n",
-            shown_answer(expected),
-            shown_state(&expected_state)
+            shown_answer(second.answer),
+            shown_state(second.state)
         );
         if !whole {
-            told += "a byte that was not lent, or of the sheet, has changed\n";
+            told += "a byte that was not lent, or of the sheet or the journal, has changed\n";
         }
         Err(self.report(case, state, &told))
     }
@@ -123,8 +171,11 @@ impl<'a> Comparison<'a> {
             text += &format!("  {}\n", line.escape_ascii());
         }
         text += &format!("state before:  {}\n", shown_state(state));
+        if let Some(journal) = &self.journal {
+            text += &shown_journal(journal);
+        }
         let recent = self.history.len().saturating_sub(60);
-        text += "calls since check or start, the last one being the call in question:\n";
+        text += "calls since check, start or restart, the last one being the call in question:\n";
         for (call, answer) in &self.history[recent..] {
             text += &format!("  {}: {}\n", shown_call(*call), shown_answer(*answer));
         }
@@ -160,7 +211,9 @@ impl<'a> Comparison<'a> {
         self.tally.note_sheet(case.network());
         self.compare_sheet(&case, &mut dice)?;
         if case.network().is_some() && !self.check_only {
-            for _ in 0..3 {
+            let record = self.campaign(&case, &mut dice)?;
+            self.some_journals(&case, &record, &mut dice)?;
+            for _ in 0..2 {
                 self.campaign(&case, &mut dice)?;
             }
         }
@@ -181,13 +234,32 @@ fn second_answer(judged: &Judged, state: &mut [u8], call: Call) -> u32 {
     }
 }
 
+fn name_of(call: Call) -> &'static str {
+    match call {
+        Call::Check => "check",
+        Call::Start => "start",
+        Call::NextOrder => "next order",
+        Call::Reply(..) => "reply",
+    }
+}
+
 fn shown_call(call: Call) -> String {
     match call {
-        Call::Check => "check".to_string(),
-        Call::Start => "start".to_string(),
-        Call::NextOrder => "next order".to_string(),
         Call::Reply(letter, booking) => format!("reply {} {booking}", letter.escape_ascii()),
+        _ => name_of(call).to_string(),
     }
+}
+
+/// A journal, without the middle of a long one.
+fn shown_journal(journal: &[u8]) -> String {
+    let lines: Vec<&[u8]> = journal.chunks(LINE_LENGTH).collect();
+    let mut text = format!("restart with a journal of {} bytes:\n", journal.len());
+    for (at, line) in lines.iter().enumerate() {
+        if at < 100 || at + 40 > lines.len() {
+            text += &format!("  {}: {}\n", at + 1, line.escape_ascii());
+        }
+    }
+    text
 }
 
 fn shown_answer(answer: u32) -> String {

@@ -41,7 +41,7 @@ impl Comparison<'_> {
         }
         // Long sheets cost more and show less.
         let campaigns = if flight.sheet.len() > 500 { 2 } else { 20 };
-        (0..campaigns).try_for_each(|_| self.campaign(&case, dice))
+        (0..campaigns).try_for_each(|_| self.campaign(&case, dice).map(drop))
     }
 
     /// Every byte changed, every end cut off, and bytes behind the end.

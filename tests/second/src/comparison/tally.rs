@@ -1,6 +1,5 @@
 //! Counts of what was compared.
 
-use super::Call;
 use crate::calls::{kind_of, refusal_of};
 use crate::check::Network;
 use crate::plan::Kind;
@@ -17,14 +16,8 @@ pub struct Tally {
 }
 
 impl Tally {
-    pub fn note(&mut self, call: Call, answer: u32) {
-        let name = match call {
-            Call::Check => "check",
-            Call::Start => "start",
-            Call::NextOrder => "next order",
-            Call::Reply(..) => "reply",
-        };
-        *self.calls.entry(name).or_default() += 1;
+    pub fn note(&mut self, call: &'static str, answer: u32) {
+        *self.calls.entry(call).or_default() += 1;
         *self.kinds.entry(kind_of(answer)).or_default() += 1;
         if kind_of(answer) == 0 {
             *self.refusals.entry(refusal_of(answer)).or_default() += 1;
@@ -67,6 +60,10 @@ impl Tally {
         *self.sentences.entry(sentence).or_default() += 1;
     }
 
+    pub fn count_of_calls(&self, call: &str) -> u64 {
+        self.calls.get(call).copied().unwrap_or(0)
+    }
+
     pub fn count_of_kind(&self, kind: u32) -> u64 {
         self.kinds.get(&kind).copied().unwrap_or(0)
     }
@@ -84,7 +81,7 @@ impl fmt::Display for Tally {
         for kind in 0..=6 {
             writeln!(out, "kind {kind}: {}", self.count_of_kind(kind))?;
         }
-        for refusal in 1..=11 {
+        for refusal in 1..=12 {
             writeln!(out, "refusal {refusal}: {}", self.count_of_refusal(refusal))?;
         }
         for (name, count) in &self.events {

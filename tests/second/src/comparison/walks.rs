@@ -2,6 +2,7 @@
 //! states nearby.
 
 use super::ledger::Ledger;
+use super::record::{line_of, Record};
 use super::{Call, Case, Comparison, Outcome};
 use crate::calls::{kind_of, ACCEPTED, CALLED_OFF, FLOWN};
 use crate::dice::Dice;
@@ -92,35 +93,46 @@ fn is_end(call: Call, answer: u32) -> bool {
     call == Call::NextOrder && [FLOWN, CALLED_OFF].contains(&kind_of(answer))
 }
 
+/// A campaign under way: its state, what its claim is counted by, its journal.
+pub struct Walk {
+    pub state: Vec<u8>,
+    pub ledger: Ledger,
+    pub record: Record,
+}
+
 impl Comparison<'_> {
     /// One list of calls from start to some calls after the end, with the
-    /// campaign's claim counted along it. The sheet must pass.
-    pub fn campaign(&mut self, case: &Case, dice: &mut Dice) -> Outcome {
+    /// campaign's claim counted along it and its journal kept. The sheet must
+    /// pass.
+    pub fn campaign(&mut self, case: &Case, dice: &mut Dice) -> Outcome<Record> {
         let plan = &case.network().expect("a sheet that passes").plan;
         let size: usize = plan.ways.iter().map(Vec::len).sum();
         let longest = (20 * size + 40).min(3000);
-        let mut manner = manner(dice);
         let mut state: Vec<u8> = (0..65).map(|_| dice.byte()).collect();
-        let mut ledger = Ledger::default();
-        let mut calls_after_end = 0;
         self.call(case, &mut state, Call::Start)?;
+        let mut walk = Walk { ledger: Ledger::default(), record: Record::begin(&state), state };
+        self.walk(case, &mut walk, longest, dice)?;
+        self.tally.event("campaigns");
+        Ok(walk.record)
+    }
+
+    /// So many calls, or fewer if the end comes before.
+    pub fn walk(&mut self, case: &Case, walk: &mut Walk, longest: usize, dice: &mut Dice) -> Outcome {
+        let plan = &case.network().expect("a sheet that passes").plan;
+        let mut manner = manner(dice);
+        let mut calls_after_end = 0;
         for length in 0..longest {
             if length == longest / 2 {
                 // So that most campaigns end.
                 (manner.keep, manner.repeat) = (0, 0);
             }
             if dice.percent(manner.probe) {
-                self.probe(case, &state, dice)?;
+                self.probe(case, &walk.state, dice)?;
             }
-            let call = manner.next_call(dice, plan, &state);
-            let way = state[0];
-            let answer = self.call(case, &mut state, call)?;
-            let entered = ledger.enter(plan, call, answer);
-            entered.map_err(|told| self.report(case, &state, &told))?;
-            self.note_switch(way, state[0]);
-            self.note_both(plan, call, answer);
+            let call = manner.next_call(dice, plan, &walk.state);
+            let answer = self.step(case, walk, call)?;
             if is_end(call, answer) && calls_after_end == 0 {
-                self.note_end(answer, state[0]);
+                self.note_end(answer, walk.state[0]);
             }
             if calls_after_end > 0 || is_end(call, answer) {
                 calls_after_end += 1;
@@ -129,8 +141,23 @@ impl Comparison<'_> {
                 break;
             }
         }
-        self.tally.event("campaigns");
         Ok(())
+    }
+
+    /// One call, entered into the ledger, and into the journal if it has a line.
+    fn step(&mut self, case: &Case, walk: &mut Walk, call: Call) -> Outcome<u32> {
+        let plan = &case.network().expect("a sheet that passes").plan;
+        let way = walk.state[0];
+        let answer = self.call(case, &mut walk.state, call)?;
+        let entered = walk.ledger.enter(plan, call, answer);
+        entered.map_err(|told| self.report(case, &walk.state, &told))?;
+        if let Some((letter, booking)) = line_of(call, answer) {
+            let line = self.journal_line(letter, booking, b"??????")?;
+            walk.record.add((call, answer), &line, &walk.state);
+        }
+        self.note_switch(way, walk.state[0]);
+        self.note_both(plan, call, answer);
+        Ok(answer)
     }
 
     fn note_switch(&mut self, before: u8, after: u8) {
@@ -183,6 +210,11 @@ impl Comparison<'_> {
     /// Some calls from a sound state that no campaign need reach.
     fn stray(&mut self, case: &Case, from: &State, dice: &mut Dice) -> Outcome {
         self.tally.event("sound states beside the campaigns");
+        self.some_calls(case, from, dice)
+    }
+
+    /// Some calls from this state.
+    pub fn some_calls(&mut self, case: &Case, from: &[u8], dice: &mut Dice) -> Outcome {
         let plan = &case.network().expect("a sheet that passes").plan;
         let mut state = from.to_vec();
         let manner = manner(dice);
