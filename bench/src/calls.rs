@@ -1,6 +1,7 @@
-//! The four calls on lent bytes, on sets of 64 bits: what the library is measured against.
+//! The calls on lent bytes, on sets of 64 bits: what the library is measured against.
 
 use crate::check::{self, Network};
+use crate::journal;
 use crate::plan;
 use crate::refusal::Refusal;
 use crate::run::{Change, Order, Run, STATE_LENGTH};
@@ -80,11 +81,23 @@ pub fn reply(sheet: &[u8], state: &mut [u8], letter: u8, booking: u32) -> u32 {
     let mut step = || {
         let network = judge(sheet)?;
         let bytes = lent(state)?;
-        let run = Run::of_bytes(&network, bytes).ok_or(UNSOUND)?;
+        let mut run = Run::of_bytes(&network, bytes).ok_or(UNSOUND)?;
         let misfit = Refusal { number: 9, place: if booking <= 64 { booking } else { 0 } };
         let change = run.reply(&network, letter, booking).ok_or(misfit)?;
         write(&change, bytes);
         Ok(pack(6, 0, booking))
+    };
+    answer(step())
+}
+
+#[inline(never)]
+pub fn restart(sheet: &[u8], journal: &[u8], state: &mut [u8]) -> u32 {
+    let wrong = |line: usize| Refusal { number: 12, place: line.min(65_535) as u32 };
+    let mut step = || {
+        let network = judge(sheet)?;
+        let bytes = lent(state)?;
+        *bytes = journal::replay(&network, journal).map_err(wrong)?.bytes();
+        Ok(pack(6, 0, 0))
     };
     answer(step())
 }

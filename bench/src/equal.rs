@@ -1,8 +1,9 @@
 //! Both versions must give equal answers and leave equal states, or no time means anything.
 
 use crate::campaign::{record, Dice, State};
-use crate::sheets::Sheet;
-use crate::{calls, library};
+use crate::journal::LINE_LENGTH;
+use crate::sheets::{Endless, Sheet};
+use crate::{calls, library, restart};
 
 pub struct Compared {
     pub calls: usize,
@@ -31,6 +32,9 @@ impl Compared {
                 library::reply(sheet, &mut here, letter, booking),
                 calls::reply(sheet, &mut there, letter, booking),
             ),
+            Step::Restart(journal) => {
+                (library::restart(sheet, journal, &mut here), calls::restart(sheet, journal, &mut there))
+            }
         };
         self.same(answers.0, answers.1, what, sheet);
         if here != there {
@@ -41,10 +45,11 @@ impl Compared {
 }
 
 #[derive(Clone, Copy)]
-enum Step {
+enum Step<'a> {
     Start,
     Order,
     Reply(u8, u32),
+    Restart(&'a [u8]),
 }
 
 fn damaged_sheets(compared: &mut Compared, sheet: &[u8], dice: &mut Dice, times: usize) {
@@ -60,6 +65,7 @@ fn damaged_sheets(compared: &mut Compared, sheet: &[u8], dice: &mut Dice, times:
         }
         compared.check(&bytes);
         compared.step(&bytes, &[0; 65], "start, damaged sheet", Step::Start);
+        compared.step(&bytes, &[0; 65], "restart, damaged sheet", Step::Restart(b"Q   1\nY   1\n"));
     }
 }
 
@@ -72,6 +78,32 @@ fn damaged(state: &State, dice: &mut Dice) -> Vec<u8> {
         _ => bytes[1 + dice.below(64)] = dice.below(6) as u8,
     }
     bytes
+}
+
+/// A journal cut at a byte, with a byte changed, or with a line doubled, dropped or another.
+fn damaged_journal(journal: &[u8], dice: &mut Dice) -> Vec<u8> {
+    let mut bytes = journal.to_vec();
+    if bytes.is_empty() {
+        return b"Q   1".to_vec();
+    }
+    let at = dice.below(bytes.len());
+    let line = at - at % LINE_LENGTH;
+    match dice.below(5) {
+        0 => bytes.truncate(at),
+        1 => bytes[at] = b" 0123456789QUYNGKWEOXquyngk\n\0"[dice.below(29)],
+        2 => bytes.extend_from_within(line..line + LINE_LENGTH),
+        3 => drop(bytes.drain(line..line + LINE_LENGTH)),
+        _ => bytes[line] = b"QUYNGK"[dice.below(6)],
+    }
+    bytes
+}
+
+fn restarts(compared: &mut Compared, sheet: &[u8], journal: &[u8], dice: &mut Dice) {
+    compared.step(sheet, &[9; 65], "restart", Step::Restart(journal));
+    for length in [65, 65, 65, 65, 65, 64, 66] {
+        let damaged = damaged_journal(journal, dice);
+        compared.step(sheet, &vec![9; length], "restart, damaged journal", Step::Restart(&damaged));
+    }
 }
 
 fn campaigns(compared: &mut Compared, sheet: &[u8], dice: &mut Dice, most: usize) {
@@ -89,6 +121,7 @@ fn campaigns(compared: &mut Compared, sheet: &[u8], dice: &mut Dice, most: usize
             compared.step(sheet, &state, "any reply", other);
         }
         compared.step(sheet, &[9; 65], "start", Step::Start);
+        restarts(compared, sheet, &campaign.journal, dice);
         if compared.calls - before > most {
             return;
         }
@@ -106,6 +139,21 @@ pub fn compare(passing: &[Sheet], others: &[Sheet]) -> usize {
     }
     for sheet in others {
         damaged_sheets(&mut compared, &sheet.bytes, &mut dice, 10);
+    }
+    compared.calls
+}
+
+/// The same for the journals that are measured; each of them must be right.
+pub fn compare_restarts(sheets: &[Endless]) -> usize {
+    let mut compared = Compared { calls: 0 };
+    let mut dice = Dice(1);
+    for endless in sheets {
+        let sheet = &endless.sheet.bytes;
+        for journal in restart::journals(endless) {
+            let right = calls::pack(6, 0, 0);
+            compared.same(library::restart(sheet, &journal, &mut [9; 65]), right, "right journal", sheet);
+            restarts(&mut compared, sheet, &journal, &mut dice);
+        }
     }
     compared.calls
 }

@@ -1,4 +1,4 @@
-//! The static library's four calls, behind safe functions.
+//! The static library's calls that are measured, behind safe functions.
 
 extern "C" {
     fn campaign_check(sheet: *const u8, sheet_len: usize) -> u32;
@@ -11,6 +11,14 @@ extern "C" {
         state_len: usize,
         letter: u8,
         booking: u32,
+    ) -> u32;
+    fn campaign_restart(
+        sheet: *const u8,
+        sheet_len: usize,
+        journal: *const u8,
+        journal_len: usize,
+        state: *mut u8,
+        state_len: usize,
     ) -> u32;
 }
 
@@ -30,4 +38,9 @@ pub fn next_order(sheet: &[u8], state: &mut [u8]) -> u32 {
 
 pub fn reply(sheet: &[u8], state: &mut [u8], letter: u8, booking: u32) -> u32 {
     unsafe { campaign_reply(sheet.as_ptr(), sheet.len(), state.as_mut_ptr(), state.len(), letter, booking) }
+}
+
+pub fn restart(sheet: &[u8], journal: &[u8], state: &mut [u8]) -> u32 {
+    let (lines, length) = (journal.as_ptr(), journal.len());
+    unsafe { campaign_restart(sheet.as_ptr(), sheet.len(), lines, length, state.as_mut_ptr(), state.len()) }
 }

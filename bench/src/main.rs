@@ -1,4 +1,4 @@
-//! Measures the library's four calls against a Rust version of them on bit sets, and
+//! Measures the library's calls against a Rust version of them on bit sets, and
 //! prints the figures as Markdown.
 //! usage: bench EXAMPLES   (the folder of the example sheets)
 
@@ -6,10 +6,12 @@ mod calls;
 mod campaign;
 mod check;
 mod equal;
+mod journal;
 mod library;
 mod measure;
 mod plan;
 mod refusal;
+mod restart;
 mod run;
 mod sheets;
 
@@ -25,7 +27,8 @@ const MEASURED: usize = 16;
 fn long_campaign(sheet: &[u8]) -> Campaign {
     let recorded = (0..12).map(|seed| record(sheet, seed, REFUSING));
     let longest = recorded.max_by_key(|campaign| campaign.orders.len()).unwrap();
-    Campaign { orders: spread(&longest.orders), replies: spread(&longest.replies) }
+    let Campaign { orders, replies, journal } = longest;
+    Campaign { orders: spread(&orders), replies: spread(&replies), journal }
 }
 
 fn spread<T: Copy>(all: &[T]) -> Vec<T> {
@@ -134,6 +137,7 @@ fn calls_on<'a>(
     sheet: &'a [u8],
     state: State,
     reply: (State, u8, u32),
+    journal: &'a [u8],
 ) -> Vec<(&'static str, Call<'a>, Call<'a>)> {
     let on = |call: fn(&[u8], &mut [u8]) -> u32| -> Call<'a> {
         Box::new(move || {
@@ -147,12 +151,19 @@ fn calls_on<'a>(
             black_box(call(sheet, &mut state, letter, booking));
         })
     };
+    let restart_with = |call: fn(&[u8], &[u8], &mut [u8]) -> u32| -> Call<'a> {
+        Box::new(move || {
+            let mut state = state;
+            black_box(call(sheet, journal, &mut state));
+        })
+    };
     let check = |call: fn(&[u8]) -> u32| -> Call<'a> { Box::new(move || _ = black_box(call(sheet))) };
     vec![
         ("check", check(library::check), check(calls::check)),
         ("start", on(library::start), on(calls::start)),
         ("next order", on(library::next_order), on(calls::next_order)),
         ("reply", reply_to(library::reply), reply_to(calls::reply)),
+        ("restart", restart_with(library::restart), restart_with(calls::restart)),
     ]
 }
 
@@ -165,7 +176,7 @@ fn print_stack(sheets: &[Sheet]) {
         let campaign = long_campaign(&sheet.bytes);
         let state = campaign.orders[campaign.orders.len() / 2];
         let reply = campaign.replies[campaign.replies.len() / 2];
-        for (name, mut here, mut there) in calls_on(&sheet.bytes, state, reply) {
+        for (name, mut here, mut there) in calls_on(&sheet.bytes, state, reply, &campaign.journal) {
             println!("| {} | {name} | {} | {} |", sheet.name, stack(&mut *here), stack(&mut *there));
         }
     }
@@ -188,6 +199,8 @@ fn main() {
     for series in [&by_bookings, &by_links, &by_ways] {
         compared += equal::compare(&[], series);
     }
+    let endless = sheets::endless(&examples);
+    compared += equal::compare_restarts(&endless);
     println!("# The library and a Rust version on bit sets\n");
     println!("Both were given the same calls first, {compared} of them, and answered alike.");
     println!("Each time is the best of many short rounds, each ratio the median of the rounds' ratios; next order and");
@@ -195,6 +208,7 @@ fn main() {
         "reply are means over up to {MEASURED} calls spread over a campaign, each on a copy of its state.\n"
     );
     print_calls(&sheets);
+    restart::print_restart(&endless);
     println!("## How the time grows\n");
     print_growth("With bookings", &by_bookings);
     print_growth("With links", &by_links);

@@ -56,7 +56,7 @@ impl<'a> Lines<'a> {
 
 /// A number in four columns, right-justified, without leading zeros.
 #[inline]
-fn number(columns: &[u8]) -> Option<u32> {
+pub fn number(columns: &[u8]) -> Option<u32> {
     let digits = |digits: &[u8]| {
         let valid = digits.iter().all(u8::is_ascii_digit) && (digits[0] != b'0' || digits.len() == 1);
         valid.then(|| digits.iter().fold(0, |value, digit| value * 10 + u32::from(digit - b'0')))

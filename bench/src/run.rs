@@ -34,6 +34,10 @@ pub struct Change {
 }
 
 impl Run {
+    pub fn start() -> Run {
+        Run { way: 1, requested: 0, held: 0, lost: 0, returning: 0 }
+    }
+
     /// The run of these bytes, if they are a sound state.
     pub fn of_bytes(network: &Network, bytes: &[u8; STATE_LENGTH]) -> Option<Run> {
         let mut sets = [0u64; 5];
@@ -44,6 +48,17 @@ impl Run {
         let run = Run { way: usize::from(bytes[0]), requested, held, lost, returning };
         let past_end = if network.bookings == 64 { 0 } else { !0 << network.bookings };
         (free & past_end == past_end && run.way <= network.ways && run.is_sound(network)).then_some(run)
+    }
+
+    pub fn bytes(&self) -> [u8; STATE_LENGTH] {
+        let mut bytes = [FREE; STATE_LENGTH];
+        bytes[0] = self.way as u8;
+        let sets =
+            [(self.requested, REQUESTED), (self.held, HELD), (self.lost, LOST), (self.returning, RETURNING)];
+        for (set, code) in sets {
+            members(set).for_each(|booking| bytes[booking + 1] = code);
+        }
+        bytes
     }
 
     fn current(&self, network: &Network) -> u64 {
@@ -112,6 +127,18 @@ impl Run {
         }
     }
 
+    /// Marks an order as given.
+    pub fn give(&mut self, order: &Order) {
+        match *order {
+            Order::Request(booking) => self.requested |= 1 << booking,
+            Order::Return(booking) => {
+                self.held &= !(1 << booking);
+                self.returning |= 1 << booking;
+            }
+            _ => {}
+        }
+    }
+
     fn way_after(&self, network: &Network) -> usize {
         if self.requested != 0 || self.current(network) & self.lost == 0 {
             return self.way;
@@ -119,32 +146,31 @@ impl Run {
         network.way_sets().iter().position(|&way| self.is_live(network, way)).map_or(0, |i| i + 1)
     }
 
-    /// What a reply to booking (counted from 1) changes, if it fits.
-    pub fn reply(mut self, network: &Network, letter: u8, booking: u32) -> Option<Change> {
+    /// Takes in a reply to booking (counted from 1), if it fits; what it changes.
+    pub fn reply(&mut self, network: &Network, letter: u8, booking: u32) -> Option<Change> {
         if booking == 0 || booking > 64 {
             return None;
         }
         let bit = 1 << (booking - 1);
         let (due, code) = match letter {
-            b'Y' => (self.requested, HELD),
-            b'N' => (self.requested, if network.exposed & bit != 0 { LOST } else { FREE }),
-            b'G' => (self.returning, FREE),
-            b'K' => (self.returning, HELD),
+            b'Y' => (&mut self.requested, HELD),
+            b'N' => (&mut self.requested, if network.exposed & bit != 0 { LOST } else { FREE }),
+            b'G' => (&mut self.returning, FREE),
+            b'K' => (&mut self.returning, HELD),
             _ => return None,
         };
-        if due & bit == 0 {
+        if *due & bit == 0 {
             return None;
         }
-        let booking = booking as usize - 1;
-        if letter == b'G' || letter == b'K' {
-            return Some(Change { booking, code, way: self.way });
-        }
-        self.requested &= !bit;
+        *due &= !bit;
         match code {
             HELD => self.held |= bit,
             LOST => self.lost |= bit,
             _ => {}
         }
-        Some(Change { booking, code, way: self.way_after(network) })
+        if letter == b'Y' || letter == b'N' {
+            self.way = self.way_after(network);
+        }
+        Some(Change { booking: booking as usize - 1, code, way: self.way })
     }
 }

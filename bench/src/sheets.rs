@@ -7,6 +7,13 @@ pub struct Sheet {
     pub bytes: Vec<u8>,
 }
 
+/// A sheet with journals of any length: bookings whose desks refuse each time, a repeatable
+/// among them.
+pub struct Endless {
+    pub sheet: Sheet,
+    pub refused: Vec<usize>,
+}
+
 fn write_sheet(kinds: &str, links: &[(usize, usize)], ways: &[Vec<usize>]) -> Vec<u8> {
     let mut text = format!("P{:4}{:4}{:4}\n", kinds.len(), links.len(), ways.len());
     for (i, kind) in kinds.chars().enumerate() {
@@ -66,6 +73,18 @@ pub fn main_sheets(examples: &str) -> Vec<Sheet> {
         example(examples, "tanker", "Tanker (4, 3, 2)"),
         example(examples, "full-size", "full size (64, 512, 16)"),
         Sheet { name: "full-size row (64, 512, 16)".to_string(), bytes: row(64, 512, 16) },
+    ]
+}
+
+/// The smallest, of kind R; the Tanker without its chase aircraft; and full size with all
+/// that can be held but for a repeatable, and what stands on it.
+pub fn endless(examples: &str) -> Vec<Endless> {
+    let smallest =
+        Sheet { name: "smallest, R (1, 0, 1)".to_string(), bytes: write_sheet("R", &[], &[vec![1]]) };
+    vec![
+        Endless { sheet: smallest, refused: vec![1] },
+        Endless { sheet: example(examples, "tanker", "Tanker (4, 3, 2)"), refused: vec![3, 4] },
+        Endless { sheet: example(examples, "full-size", "full size (64, 512, 16)"), refused: vec![62] },
     ]
 }
 
