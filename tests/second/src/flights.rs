@@ -556,6 +556,16 @@ mod tests {
     }
 
     #[test]
+    fn each_refusal_of_a_sheet_comes_before_the_journal() {
+        for (name, sheet, (refusal, place)) in refused_sheets() {
+            for journal in [&b""[..], b"Y   1\n"] {
+                assert_eq!(calls::restart(&sheet, journal, &mut [1; 65]), pack(0, refusal, place), "{name}");
+            }
+        }
+        assert!((1..=8).all(|refusal| refused_sheets().iter().any(|(_, _, verdict)| verdict.0 == refusal)));
+    }
+
+    #[test]
     fn a_wrong_line_beyond_65535_is_65535() {
         let sheet = sheet(&plan_of("R", &[], &[&[1]]));
         for (lines, place) in [(65_534, 65_534), (65_535, 65_535), (65_536, 65_535), (70_000, 65_535)] {

@@ -175,7 +175,9 @@ impl<'a> Comparison<'a> {
             text += &shown_journal(journal);
         }
         let recent = self.history.len().saturating_sub(60);
-        text += "calls since check, start or restart, the last one being the call in question:\n";
+        if !self.history.is_empty() {
+            text += "calls since check, start or restart, the last one being the call in question:\n";
+        }
         for (call, answer) in &self.history[recent..] {
             text += &format!("  {}: {}\n", shown_call(*call), shown_answer(*answer));
         }
