@@ -1,90 +1,146 @@
 #include "desks.h"
 
-/* So often at most a desk refuses a booking that repeats (R or D), or fails to take one back (C or D). */
+/* At least at every fifth order a desk that promises to give in does so: it confirms what repeats (R or D), takes back
+   what it may (C or D). */
 enum { MOST_DELAYS = 4 };
 
+/* Chance for one matter alone, so that nothing depends on what was drawn for others. */
+struct dice {
+    uint64_t chance;
+};
+
+enum matter { DAY, HURRY, TURN, ANSWER, CONFUSION, MUMBLE, REPEAT, REPEAT_WHEN_BACK };
+
 /* splitmix64 */
-static uint64_t draw(struct desks *desks)
+static uint64_t draw(struct dice *dice)
 {
-    uint64_t mixed = desks->chance += UINT64_C(0x9E3779B97F4A7C15);
+    uint64_t mixed = dice->chance += UINT64_C(0x9E3779B97F4A7C15);
     mixed = (mixed ^ (mixed >> 30)) * UINT64_C(0xBF58476D1CE4E5B9);
     mixed = (mixed ^ (mixed >> 27)) * UINT64_C(0x94D049BB133111EB);
     return mixed ^ (mixed >> 31);
 }
 
-static unsigned below(struct desks *desks, unsigned bound)
+static struct dice stir(struct dice dice, uint64_t number)
 {
-    return (unsigned) (draw(desks) % bound);
+    return (struct dice) {draw(&dice) ^ number};
 }
 
-bool desks_percent(struct desks *desks, unsigned chance)
+static struct dice dice_for(const struct desks *desks, enum matter matter, uint64_t first, uint64_t second)
 {
-    return below(desks, 100) < chance;
+    struct dice dice = {desks->seed};
+    return stir(stir(stir(dice, (uint64_t) matter), first), second);
+}
+
+static unsigned below(struct dice *dice, unsigned long bound)
+{
+    return (unsigned) (draw(dice) % bound);
+}
+
+static bool percent(struct dice *dice, unsigned chance)
+{
+    return below(dice, 100) < chance;
 }
 
 void desks_open(struct desks *desks, uint64_t seed)
 {
     /* From days on which all goes well to days on which little does. */
     static const unsigned days[] = {0, 1, 3, 10, 25, 50};
-    *desks = (struct desks) {.chance = seed};
-    desks->refusing = days[below(desks, sizeof days / sizeof days[0])];
+    *desks = (struct desks) {.seed = seed};
+    struct dice dice = dice_for(desks, DAY, 0, 0);
+    desks->refusing = days[below(&dice, sizeof days / sizeof days[0])];
 }
 
-static bool reply_due(uint8_t code)
+void desks_send(struct desks *desks, struct order order)
 {
-    return code == CAMPAIGN_REQUESTED || code == CAMPAIGN_RETURNING;
+    desks->order[order.what.booking] = order;
 }
 
-unsigned desks_who_answers(struct desks *desks, const uint8_t code[CAMPAIGN_STATE_LENGTH])
+static unsigned with_order(const struct desks *desks, unsigned due[CAMPAIGN_MOST_BOOKINGS])
 {
-    unsigned due[CAMPAIGN_MOST_BOOKINGS];
     unsigned count = 0;
     for (unsigned booking = 1; booking <= CAMPAIGN_MOST_BOOKINGS; booking++)
-        if (reply_due(code[booking]))
+        if (desks->order[booking].number != 0)
             due[count++] = booking;
-    return count == 0 ? 0 : due[below(desks, count)];
+    return count;
 }
 
-/* A desk that promises to give in does so after a few delays. */
-static bool puts_us_off(struct desks *desks, unsigned booking, bool gives_in)
+bool desks_hurry(const struct desks *desks, size_t lines)
 {
-    if (gives_in && desks->stubborn[booking] >= MOST_DELAYS)
+    unsigned due[CAMPAIGN_MOST_BOOKINGS];
+    struct dice dice = dice_for(desks, HURRY, lines, 0);
+    return percent(&dice, 15) && with_order(desks, due) > 0;
+}
+
+bool desks_answer(struct desks *desks, const struct plan *plan, size_t lines, struct reply *reply)
+{
+    unsigned due[CAMPAIGN_MOST_BOOKINGS];
+    unsigned count = with_order(desks, due);
+    if (count == 0)
         return false;
-    return desks_percent(desks, desks->refusing);
+    struct dice dice = dice_for(desks, TURN, lines, 0);
+    unsigned booking = due[below(&dice, count)];
+    *reply = desks_say(desks, plan, desks->order[booking]);
+    desks->order[booking].number = 0;
+    return true;
 }
 
-struct reply desks_answer(struct desks *desks, const struct plan *plan, unsigned booking, uint8_t code)
+static bool puts_us_off(const struct desks *desks, struct order order, bool gives_in)
 {
-    bool request = code == CAMPAIGN_REQUESTED;
-    bool no = puts_us_off(desks, booking, !request || plan_repeats(plan, booking));
-    desks->stubborn[booking] = no ? desks->stubborn[booking] + 1 : 0;
+    struct dice dice = dice_for(desks, ANSWER, order.what.booking, order.number);
+    if (gives_in && order.number % (MOST_DELAYS + 1) == 0)
+        return false;
+    return percent(&dice, desks->refusing);
+}
+
+struct reply desks_say(const struct desks *desks, const struct plan *plan, struct order order)
+{
+    uint32_t booking = order.what.booking;
+    bool request = order.what.letter == CAMPAIGN_REQUEST_LETTER;
+    bool no = puts_us_off(desks, order, !request || plan_repeats(plan, booking));
     uint8_t letter = request ? (no ? CAMPAIGN_DECLINED : CAMPAIGN_CONFIRMED) : (no ? CAMPAIGN_KEPT : CAMPAIGN_RETURNED);
-    return (struct reply) {letter, booking};
+    return (struct reply) {{letter, booking}, order.number};
 }
 
-static bool fits(struct reply reply, const uint8_t code[CAMPAIGN_STATE_LENGTH])
+static bool fits(struct entry what, const uint8_t code[CAMPAIGN_STATE_LENGTH])
 {
-    if (reply.booking < 1 || reply.booking > CAMPAIGN_MOST_BOOKINGS)
+    if (what.booking < 1 || what.booking > CAMPAIGN_MOST_BOOKINGS)
         return false;
-    switch (reply.letter) {
+    switch (what.letter) {
     case CAMPAIGN_CONFIRMED:
-    case CAMPAIGN_DECLINED: return code[reply.booking] == CAMPAIGN_REQUESTED;
+    case CAMPAIGN_DECLINED: return code[what.booking] == CAMPAIGN_REQUESTED;
     case CAMPAIGN_RETURNED:
-    case CAMPAIGN_KEPT: return code[reply.booking] == CAMPAIGN_RETURNING;
+    case CAMPAIGN_KEPT: return code[what.booking] == CAMPAIGN_RETURNING;
     default: return false;
     }
 }
 
-struct reply desks_misfit(struct desks *desks, const uint8_t code[CAMPAIGN_STATE_LENGTH])
+bool desks_confused(const struct desks *desks, size_t lines, const uint8_t code[CAMPAIGN_STATE_LENGTH],
+                    struct reply *reply)
 {
-    static const uint8_t letters[] = {'Y', 'N', 'G', 'K', 'y', '?', 0, 255};
+    static const uint8_t letters[] = {'Y', 'N', 'G', 'K', 'Q', 'U', 'y', '?', 0, 255};
     static const uint32_t far[] = {0, 64, 65, 70, 256, 65536, UINT32_MAX};
-    for (;;) {
-        struct reply reply;
-        reply.letter = letters[below(desks, sizeof letters)];
-        reply.booking = desks_percent(desks, 80) ? 1 + below(desks, CAMPAIGN_MOST_BOOKINGS)
-                                                 : far[below(desks, sizeof far / sizeof far[0])];
-        if (!fits(reply, code))
-            return reply;
-    }
+    struct dice dice = dice_for(desks, CONFUSION, lines, 0);
+    if (!percent(&dice, 8))
+        return false;
+    do {
+        reply->order = 0;
+        reply->what.letter = letters[below(&dice, sizeof letters)];
+        reply->what.booking = percent(&dice, 80) ? 1 + below(&dice, CAMPAIGN_MOST_BOOKINGS)
+                                                 : far[below(&dice, sizeof far / sizeof far[0])];
+    } while (fits(reply->what, code));
+    return true;
+}
+
+bool desks_mumble(const struct desks *desks, size_t lines)
+{
+    struct dice dice = dice_for(desks, MUMBLE, lines, 0);
+    return percent(&dice, 7);
+}
+
+unsigned long desks_repeat(const struct desks *desks, size_t lines, uint32_t booking, unsigned long replies, bool back)
+{
+    struct dice dice = dice_for(desks, back ? REPEAT_WHEN_BACK : REPEAT, lines, booking);
+    if (replies == 0 || !percent(&dice, back ? 30 : 3))
+        return 0;
+    return 1 + below(&dice, replies);
 }

@@ -1,31 +1,56 @@
-/* Simulated desks: who answers next, and what, drawn from a seed. */
+/*
+ * Simulated desks: who answers next, and what. All is drawn from the seed, the
+ * number of lines in the journal, and the order to be answered, and from
+ * nothing that a stop of the program would wipe out. So an order that is sent
+ * again is answered as it was first, and a campaign that is taken up again goes
+ * on as it would have without a stop.
+ */
 #ifndef DESKS_H
 #define DESKS_H
 
+#include "journal.h"
 #include "plan.h"
 
-struct desks {
-    uint64_t chance;
-    unsigned refusing; /* percent of requests refused, of returns that fail */
-    unsigned stubborn[CAMPAIGN_MOST_BOOKINGS + 1]; /* times in a row a desk put us off */
+/* To one booking's desk its orders are numbered from 1. */
+struct order {
+    struct entry what; /* number 0: none */
+    unsigned long number;
 };
 
 struct reply {
-    uint8_t letter;
-    uint32_t booking;
+    struct entry what;
+    unsigned long order; /* the order that it answers; 0: it does not say */
+};
+
+struct desks {
+    uint64_t seed;
+    unsigned refusing; /* percent of requests refused, of returns that fail */
+    struct order order[CAMPAIGN_MOST_BOOKINGS + 1]; /* sent to this booking's desk, not yet answered */
 };
 
 void desks_open(struct desks *desks, uint64_t seed);
 
-bool desks_percent(struct desks *desks, unsigned chance);
+/* The order reaches its desk. */
+void desks_send(struct desks *desks, struct order order);
 
-/* One of the bookings whose code says that a reply is due; 0 if there is none. */
-unsigned desks_who_answers(struct desks *desks, const uint8_t code[CAMPAIGN_STATE_LENGTH]);
+/* Some desk with an order answers even before the next order is fetched. */
+bool desks_hurry(const struct desks *desks, size_t lines);
 
-/* What that booking's desk says. */
-struct reply desks_answer(struct desks *desks, const struct plan *plan, unsigned booking, uint8_t code);
+/* One of the desks with an order answers it; false if there is none. */
+bool desks_answer(struct desks *desks, const struct plan *plan, size_t lines, struct reply *reply);
 
-/* A reply that fits nothing, of the kind a confused desk would send. */
-struct reply desks_misfit(struct desks *desks, const uint8_t code[CAMPAIGN_STATE_LENGTH]);
+/* What the desk of this order says to it, whenever it is asked. */
+struct reply desks_say(const struct desks *desks, const struct plan *plan, struct order order);
+
+/* Now and then a confused desk: its reply fits nothing. */
+bool desks_confused(const struct desks *desks, size_t lines, const uint8_t code[CAMPAIGN_STATE_LENGTH],
+                    struct reply *reply);
+
+/* Now and then a desk says the same once more without its order's number. */
+bool desks_mumble(const struct desks *desks, size_t lines);
+
+/* Now and then this desk repeats one of so many replies; 0, or the number of the order that it answers. After a stop,
+   when the line to the dispatcher is back, more of them do. */
+unsigned long desks_repeat(const struct desks *desks, size_t lines, uint32_t booking, unsigned long replies, bool back);
 
 #endif

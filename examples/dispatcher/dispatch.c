@@ -1,5 +1,7 @@
+#define _POSIX_C_SOURCE 200809L
 #include "dispatch.h"
 
+#include "books.h"
 #include "desks.h"
 #include "words.h"
 
@@ -7,48 +9,49 @@
 #include <stdarg.h>
 #include <stdlib.h>
 #include <string.h>
+#include <time.h>
+
+/* Stands in a state that nobody has written yet. */
+enum { UNWRITTEN = 0xA5 };
 
 struct run {
+    const struct task *task;
     const struct plan *plan;
     uint8_t *state; /* the library's 65 bytes */
-    uint64_t seed;
     struct desks desks;
-    FILE *log;
+    struct books books;
+    struct journal *journal;
     struct tally *tally;
-    /* Our own books, kept from orders and replies alone. */
-    uint8_t code[CAMPAIGN_STATE_LENGTH];
-    unsigned confirmed[CAMPAIGN_MOST_BOOKINGS + 1];
-    unsigned returned[CAMPAIGN_MOST_BOOKINGS + 1];
-    unsigned long steps;  /* orders sent and replies taken */
-    unsigned long delays; /* refusals of what repeats, returns that failed */
+    enum outcome outcome;
 };
 
 static void say(const struct run *run, const char *format, ...)
 {
-    if (run->log == NULL)
+    if (run->task->log == NULL)
         return;
     va_list words;
     va_start(words, format);
-    vfprintf(run->log, format, words);
+    vfprintf(run->task->log, format, words);
     va_end(words);
 }
 
 static void say_set(const struct run *run, uint64_t set)
 {
-    if (run->log != NULL)
-        plan_write_set(run->log, set);
+    if (run->task->log != NULL)
+        plan_write_set(run->task->log, set);
 }
 
 /* The library broke its word; always false, for the caller to hand on. */
-static bool blame(const struct run *run, const char *what, uint32_t answer)
+static bool blame(struct run *run, const char *what, uint32_t answer)
 {
     fprintf(stderr, "dispatcher: FAULT: %s (answer: kind %u, refusal %u, place %u); repeat it with --seed %" PRIu64 "\n",
             what, (unsigned) campaign_kind_of(answer), (unsigned) campaign_refusal_of(answer),
-            (unsigned) campaign_place_of(answer), run->seed);
+            (unsigned) campaign_place_of(answer), run->task->seed);
+    run->outcome = LIBRARY_FAULT;
     return false;
 }
 
-/* The four calls on this run. */
+/* The calls on this run. */
 
 static uint32_t ask_start(struct run *run)
 {
@@ -60,89 +63,91 @@ static uint32_t ask_next(struct run *run)
     return campaign_next_order(run->plan->sheet, run->plan->length, run->state, CAMPAIGN_STATE_LENGTH);
 }
 
-static uint32_t hand_in(struct run *run, struct reply reply)
+static uint32_t hand_in(struct run *run, struct entry reply)
 {
     return campaign_reply(run->plan->sheet, run->plan->length, run->state, CAMPAIGN_STATE_LENGTH,
                           reply.letter, reply.booking);
 }
 
-/* Sets of bookings, by our own books. */
-
-static uint64_t coded(const struct run *run, uint8_t code)
+/* What the journal says, tail and all, into a state of its own. */
+static uint32_t ask_restart(const struct run *run, uint8_t found[CAMPAIGN_STATE_LENGTH])
 {
-    uint64_t set = 0;
-    for (unsigned booking = 1; booking <= run->plan->bookings; booking++)
-        if (run->code[booking] == code)
-            set |= UINT64_C(1) << (booking - 1);
-    return set;
-}
-
-static uint64_t held_firm(const struct run *run)
-{
-    uint64_t set = coded(run, CAMPAIGN_HELD);
-    for (unsigned booking = 1; booking <= run->plan->bookings; booking++)
-        if (!plan_firm(run->plan, booking))
-            set &= ~(UINT64_C(1) << (booking - 1));
-    return set;
-}
-
-/* Confirmed and not returned, counted from the replies. */
-static uint64_t in_hand(const struct run *run)
-{
-    uint64_t set = 0;
-    for (unsigned booking = 1; booking <= run->plan->bookings; booking++)
-        if (run->confirmed[booking] > run->returned[booking])
-            set |= UINT64_C(1) << (booking - 1);
-    return set;
+    memset(found, UNWRITTEN, CAMPAIGN_STATE_LENGTH);
+    return campaign_restart(run->plan->sheet, run->plan->length, run->journal->bytes,
+                            run->journal->length + run->journal->tail, found, CAMPAIGN_STATE_LENGTH);
 }
 
 static bool books_agree(const struct run *run)
 {
-    return memcmp(run->code + 1, run->state + 1, CAMPAIGN_MOST_BOOKINGS) == 0;
+    return memcmp(run->books.code, run->state, CAMPAIGN_STATE_LENGTH) == 0;
 }
 
-/* Each order and each reply brings the end nearer, save the delays. */
-static bool within_bound(const struct run *run)
+/* A right journal gives the state that the calls of its lines left. */
+static bool restart_agrees(struct run *run, uint32_t answer, const uint8_t found[CAMPAIGN_STATE_LENGTH])
 {
-    return run->steps <= 4 * plan_size_of_ways(run->plan) + 2 * run->delays;
+    if (campaign_kind_of(answer) != CAMPAIGN_ACCEPTED || campaign_place_of(answer) != 0)
+        return blame(run, "a right journal was refused", answer);
+    return memcmp(found, run->state, CAMPAIGN_STATE_LENGTH) == 0
+        || blame(run, "restart gives another state than the calls of the journal's lines", answer);
+}
+
+/* Stores the line of an order or an accepted reply. Until this is done there is no further call, and no order goes out. */
+static bool keep(struct run *run, struct entry entry)
+{
+    uint8_t line[CAMPAIGN_JOURNAL_LINE_LENGTH];
+    struct entry back;
+    uint32_t answer = campaign_journal_line(entry.letter, entry.booking, line, sizeof line);
+    if (campaign_kind_of(answer) != CAMPAIGN_ACCEPTED || campaign_place_of(answer) != sizeof line)
+        return blame(run, "a journal line was refused", answer);
+    if (!journal_read(line, &back) || back.letter != entry.letter || back.booking != entry.booking)
+        return blame(run, "a journal line does not say what happened", answer);
+    if (!journal_store(run->journal, line))
+        run->outcome = JOURNAL_FAILED;
+    return run->outcome == ENDED;
 }
 
 /* Orders. */
 
-static bool enter_order(struct run *run, uint32_t answer, uint8_t from, uint8_t to)
+static void count(struct run *run, struct entry entry)
 {
-    uint32_t booking = campaign_place_of(answer);
-    if (booking < 1 || booking > run->plan->bookings)
-        return blame(run, "an order for a booking that is not on the sheet", answer);
-    if (run->code[booking] != from)
-        return blame(run, "an order that our books do not allow", answer);
-    run->code[booking] = to;
-    run->steps++;
-    if (!within_bound(run))
-        return blame(run, "more orders and replies than the bound allows", answer);
+    switch (entry.letter) {
+    case CAMPAIGN_REQUEST_LETTER: run->tally->requests++; break;
+    case CAMPAIGN_RETURN_LETTER: run->tally->returns++; break;
+    case CAMPAIGN_CONFIRMED: run->tally->confirmed++; break;
+    case CAMPAIGN_DECLINED: run->tally->declined++; break;
+    case CAMPAIGN_RETURNED: run->tally->returned++; break;
+    default: run->tally->kept++; break;
+    }
+}
+
+static bool enter_order(struct run *run, struct entry order, uint32_t answer)
+{
+    const char *fault = books_order(&run->books, order);
+    if (fault != NULL)
+        return blame(run, fault, answer);
+    count(run, order);
     return books_agree(run) || blame(run, "state and books differ after an order", answer);
 }
 
-static bool send_request(struct run *run, uint32_t answer)
+/* An order that is sent again has the number that it had. */
+static void send_order(struct run *run, struct entry order, const char *again)
 {
-    uint32_t booking = campaign_place_of(answer);
-    if (!enter_order(run, answer, CAMPAIGN_FREE, CAMPAIGN_REQUESTED))
-        return false;
-    run->tally->requests++;
-    say(run, "  to desk %2u: we ask for booking %u (%s)\n", (unsigned) booking, (unsigned) booking,
-        words_for_kind(run->plan->kind[booking]));
-    return true;
+    unsigned booking = order.booking;
+    unsigned long number = run->books.orders[booking];
+    desks_send(&run->desks, (struct order) {order, number});
+    if (order.letter == CAMPAIGN_REQUEST_LETTER)
+        say(run, "  to desk %2u: %swe ask for booking %u (%s), order %lu\n", booking, again, booking,
+            words_for_kind(run->plan->kind[booking]), number);
+    else
+        say(run, "  to desk %2u: %splease take booking %u back, order %lu\n", booking, again, booking, number);
 }
 
-static bool send_return(struct run *run, uint32_t answer)
+static bool give_order(struct run *run, uint8_t letter, uint32_t answer)
 {
-    uint32_t booking = campaign_place_of(answer);
-    if (!enter_order(run, answer, CAMPAIGN_HELD, CAMPAIGN_RETURNING))
+    struct entry order = {letter, campaign_place_of(answer)};
+    if (!enter_order(run, order, answer) || !keep(run, order))
         return false;
-    if (plan_firm(run->plan, booking))
-        return blame(run, "a return of a booking that can't be given back", answer);
-    run->tally->returns++;
-    say(run, "  to desk %2u: please take booking %u back\n", (unsigned) booking, (unsigned) booking);
+    send_order(run, order, "");
     return true;
 }
 
@@ -150,8 +155,8 @@ static bool send_return(struct run *run, uint32_t answer)
 
 static void say_why_passed_over(const struct run *run, unsigned way)
 {
-    uint64_t lost = run->plan->way[way] & coded(run, CAMPAIGN_LOST);
-    uint64_t missing = held_firm(run) & ~run->plan->way[way];
+    uint64_t lost = run->plan->way[way] & books_coded(&run->books, CAMPAIGN_LOST);
+    uint64_t missing = books_held_firm(&run->books) & ~run->plan->way[way];
     say(run, "  -- way %u is passed over:", way);
     if (lost != 0) {
         say(run, " it needs what is lost:");
@@ -163,43 +168,34 @@ static void say_why_passed_over(const struct run *run, unsigned way)
     say(run, "\n");
 }
 
+static void say_way(const struct run *run, const char *word)
+{
+    unsigned way = run->state[0];
+    say(run, "  -- %s way %u:", word, way);
+    say_set(run, run->plan->way[way]);
+    say(run, "\n");
+}
+
 static void say_change(const struct run *run, unsigned before, unsigned after)
 {
     say(run, "  -- way %u can't be flown any more, lost:", before);
-    say_set(run, run->plan->way[before] & coded(run, CAMPAIGN_LOST));
+    say_set(run, run->plan->way[before] & books_coded(&run->books, CAMPAIGN_LOST));
     say(run, "; no desk is still deciding\n");
     unsigned last = after == 0 ? run->plan->ways : after - 1;
     for (unsigned way = before + 1; way <= last; way++)
         say_why_passed_over(run, way);
-    if (after == 0) {
+    if (after == 0)
         say(run, "  -- no way is left: calling off\n");
-        return;
-    }
-    say(run, "  -- now way %u:", after);
-    say_set(run, run->plan->way[after]);
-    say(run, "\n");
-}
-
-static bool take_change(struct run *run, unsigned before, uint32_t answer)
-{
-    unsigned after = run->state[0];
-    if (after == before)
-        return true;
-    if (after > run->plan->ways || (after != 0 && after < before))
-        return blame(run, "the way changed to one that was given up or is not on the sheet", answer);
-    if (coded(run, CAMPAIGN_REQUESTED) != 0)
-        return blame(run, "the way changed while a desk still decides", answer);
-    run->tally->switches++;
-    say_change(run, before, after);
-    return true;
+    else
+        say_way(run, "now");
 }
 
 static void say_patience(const struct run *run, unsigned way)
 {
-    uint64_t deciding = coded(run, CAMPAIGN_REQUESTED);
+    uint64_t deciding = books_coded(&run->books, CAMPAIGN_REQUESTED);
     if (run->state[0] != way || way == 0 || deciding == 0)
         return;
-    if ((run->plan->way[way] & coded(run, CAMPAIGN_LOST)) == 0)
+    if ((run->plan->way[way] & books_coded(&run->books, CAMPAIGN_LOST)) == 0)
         return;
     say(run, "  -- way %u is lost, but no other is chosen before these have decided:", way);
     say_set(run, deciding);
@@ -208,39 +204,58 @@ static void say_patience(const struct run *run, unsigned way)
 
 /* Replies. */
 
-static const char *enter_reply(struct run *run, struct reply reply)
+static const char *words_for_reply(const struct run *run, struct entry reply)
 {
-    unsigned booking = reply.booking;
     switch (reply.letter) {
-    case CAMPAIGN_CONFIRMED:
-        run->code[booking] = CAMPAIGN_HELD;
-        run->confirmed[booking]++;
-        run->tally->confirmed++;
-        return "yes, it is yours";
+    case CAMPAIGN_CONFIRMED: return "yes, it is yours";
     case CAMPAIGN_DECLINED:
-        run->tally->declined++;
-        if (plan_repeats(run->plan, booking)) {
-            run->code[booking] = CAMPAIGN_FREE;
-            run->delays++;
-            return "not now, ask again";
-        }
-        run->code[booking] = CAMPAIGN_LOST;
-        return "no, it can't be had";
-    case CAMPAIGN_RETURNED:
-        run->code[booking] = CAMPAIGN_FREE;
-        run->returned[booking]++;
-        run->tally->returned++;
-        return "taken back";
-    default:
-        run->code[booking] = CAMPAIGN_HELD;
-        run->delays++;
-        run->tally->kept++;
-        return "can't take it back now, you still have it";
+        return plan_repeats(run->plan, reply.booking) ? "not now, ask again" : "no, it can't be had";
+    case CAMPAIGN_RETURNED: return "taken back";
+    default: return "can't take it back now, you still have it";
     }
 }
 
+/* Hands in a reply that is due, and enters it. */
+static bool enter_reply(struct run *run, struct entry reply)
+{
+    unsigned before = run->books.code[0];
+    uint32_t answer = hand_in(run, reply);
+    if (campaign_kind_of(answer) != CAMPAIGN_ACCEPTED || campaign_place_of(answer) != reply.booking)
+        return blame(run, "a reply that was due was not accepted", answer);
+    const char *fault = books_reply(&run->books, reply);
+    if (fault != NULL)
+        return blame(run, fault, answer);
+    count(run, reply);
+    run->tally->switches += run->books.code[0] != before;
+    return books_agree(run) || blame(run, "state and books differ after a reply", answer);
+}
+
+static bool take_reply(struct run *run, struct reply reply)
+{
+    unsigned before = run->books.code[0];
+    if (!enter_reply(run, reply.what) || !keep(run, reply.what))
+        return false;
+    say(run, "  desk %2u says: %s (order %lu)\n", (unsigned) reply.what.booking, words_for_reply(run, reply.what),
+        reply.order);
+    if (run->state[0] != before)
+        say_change(run, before, run->state[0]);
+    say_patience(run, before);
+    return true;
+}
+
+/* A reply that quotes its order. Handed in, an old one would answer whatever order is open now. */
+static bool receive(struct run *run, struct reply reply)
+{
+    if (reply.order > run->books.replies[reply.what.booking])
+        return take_reply(run, reply);
+    run->tally->discarded++;
+    say(run, "  desk %2u says again: %s (order %lu): discarded, the journal has that reply\n",
+        (unsigned) reply.what.booking, words_for_reply(run, reply.what), reply.order);
+    return true;
+}
+
 /* A reply that fits nothing must be refused with 9 and change nothing. */
-static bool hand_in_misfit(struct run *run, struct reply reply, const char *why)
+static bool hand_in_misfit(struct run *run, struct entry reply, const char *why)
 {
     uint8_t before[CAMPAIGN_STATE_LENGTH];
     memcpy(before, run->state, sizeof before);
@@ -258,44 +273,50 @@ static bool hand_in_misfit(struct run *run, struct reply reply, const char *why)
     else
         say(run, "byte %u", reply.letter);
     say(run, ", booking %" PRIu32 "): ", reply.booking);
-    if (run->log != NULL)
-        words_write_refusal(run->log, campaign_refusal_of(answer), campaign_place_of(answer));
+    if (run->task->log != NULL)
+        words_write_refusal(run->task->log, campaign_refusal_of(answer), campaign_place_of(answer));
     say(run, "; nothing changed\n");
     return true;
 }
 
-static bool take_reply(struct run *run, struct reply reply)
+/* The order of this number to this booking's desk, from the journal. */
+static struct order old_order(const struct run *run, uint32_t booking, unsigned long number)
 {
-    unsigned way = run->state[0];
-    uint32_t answer = hand_in(run, reply);
-    if (campaign_kind_of(answer) != CAMPAIGN_ACCEPTED || campaign_place_of(answer) != reply.booking)
-        return blame(run, "a reply that was due was not accepted", answer);
-    const char *words = enter_reply(run, reply);
-    run->steps++;
-    say(run, "  desk %2u says: %s\n", (unsigned) reply.booking, words);
-    if (!within_bound(run))
-        return blame(run, "more orders and replies than the bound allows", answer);
-    if (!books_agree(run))
-        return blame(run, "state and books differ after a reply", answer);
-    if (!take_change(run, way, answer))
-        return false;
-    say_patience(run, way);
+    struct entry entry = {0, 0};
+    unsigned long met = 0;
+    for (size_t line = 1; met < number; line++)
+        if (journal_entry(run->journal, line, &entry) && books_is_order(entry) && entry.booking == booking)
+            met++;
+    return (struct order) {entry, number};
+}
+
+/* Some desks say again what they said before. */
+static bool hear_repeats(struct run *run, bool back)
+{
+    size_t lines = journal_lines(run->journal);
+    for (unsigned booking = 1; booking <= run->plan->bookings; booking++) {
+        unsigned long number = desks_repeat(&run->desks, lines, booking, run->books.replies[booking], back);
+        if (number != 0 && !receive(run, desks_say(&run->desks, run->plan, old_order(run, booking, number))))
+            return false;
+    }
     return true;
 }
 
-/* One desk answers, sometimes amid noise: a confused reply, the same reply again. */
+/* One desk answers, sometimes amid noise. */
 static bool hear_a_desk(struct run *run)
 {
-    unsigned booking = desks_who_answers(&run->desks, run->code);
-    if (booking == 0)
-        return blame(run, "told to wait, but no reply is outstanding", 0);
-    if (desks_percent(&run->desks, 8)
-        && !hand_in_misfit(run, desks_misfit(&run->desks, run->code), "a confused reply"))
+    size_t lines = journal_lines(run->journal);
+    struct reply reply;
+    if (desks_confused(&run->desks, lines, run->books.code, &reply)
+        && !hand_in_misfit(run, reply.what, "a confused reply"))
         return false;
-    struct reply reply = desks_answer(&run->desks, run->plan, booking, run->code[booking]);
-    if (!take_reply(run, reply))
+    if (!desks_answer(&run->desks, run->plan, lines, &reply))
+        return blame(run, "told to wait, but no desk has an order", 0);
+    if (!receive(run, reply))
         return false;
-    return !desks_percent(&run->desks, 10) || hand_in_misfit(run, reply, "the same reply once more");
+    if (desks_mumble(&run->desks, lines) && !hand_in_misfit(run, reply.what, "the same reply without its order"))
+        return false;
+    return hear_repeats(run, false);
 }
 
 /* The end. */
@@ -303,51 +324,73 @@ static bool hear_a_desk(struct run *run)
 static bool flown(struct run *run, uint32_t answer)
 {
     unsigned way = campaign_place_of(answer);
-    if (way < 1 || way > run->plan->ways || in_hand(run) != run->plan->way[way])
+    uint64_t held = books_in_hand(&run->books);
+    if (way < 1 || way > run->plan->ways || held != run->plan->way[way])
         return blame(run, "flown, but what is held is not exactly that way", answer);
     run->tally->flown[way]++;
     say(run, "end: flown by way %u; held is exactly", way);
-    say_set(run, in_hand(run));
+    say_set(run, held);
     say(run, "\n");
     return true;
 }
 
 static bool called_off(struct run *run, uint32_t answer)
 {
-    if (in_hand(run) != 0)
+    if (books_in_hand(&run->books) != 0)
         return blame(run, "called off, but something is still held", answer);
     run->tally->called_off++;
     say(run, "end: called off; nothing is held\n");
     return true;
 }
 
+/* Had we been stopped now, the journal would give the state that we have. */
+static bool journal_agrees(struct run *run)
+{
+    uint8_t found[CAMPAIGN_STATE_LENGTH];
+    return restart_agrees(run, ask_restart(run, found), found);
+}
+
 static bool ended(struct run *run, uint32_t answer)
 {
-    if (coded(run, CAMPAIGN_REQUESTED) != 0 || coded(run, CAMPAIGN_RETURNING) != 0)
+    if (books_coded(&run->books, CAMPAIGN_REQUESTED) != 0 || books_coded(&run->books, CAMPAIGN_RETURNING) != 0)
         return blame(run, "ended while a reply is outstanding", answer);
-    return campaign_kind_of(answer) == CAMPAIGN_FLOWN ? flown(run, answer) : called_off(run, answer);
+    if (!journal_agrees(run))
+        return false;
+    if (!(campaign_kind_of(answer) == CAMPAIGN_FLOWN ? flown(run, answer) : called_off(run, answer)))
+        return false;
+    if (run->task->log != NULL)
+        books_write(&run->books, run->task->log);
+    return true;
 }
 
 /* Waiting and ending change nothing. */
-static bool unchanged(const struct run *run, uint32_t answer)
+static bool unchanged(struct run *run, uint32_t answer)
 {
     return books_agree(run) || blame(run, "state and books differ where no order was given", answer);
 }
 
-/* After an order a quick desk may answer before the next one is fetched. */
-static bool after_order(struct run *run)
+static void pause_before_step(const struct run *run)
 {
-    return !desks_percent(&run->desks, 15) || hear_a_desk(run);
+    uint64_t pause = run->task->pause;
+    struct timespec time = {.tv_sec = (time_t) (pause / 1000), .tv_nsec = (long) (pause % 1000) * 1000000};
+    if (pause > 0)
+        nanosleep(&time, NULL);
 }
 
 static bool run_to_end(struct run *run)
 {
     for (;;) {
-        uint32_t answer = ask_next(run);
         bool good;
+        pause_before_step(run);
+        if (desks_hurry(&run->desks, journal_lines(run->journal))) {
+            if (!hear_a_desk(run))
+                return false;
+            continue;
+        }
+        uint32_t answer = ask_next(run);
         switch (campaign_kind_of(answer)) {
-        case CAMPAIGN_REQUEST: good = send_request(run, answer) && after_order(run); break;
-        case CAMPAIGN_RETURN: good = send_return(run, answer) && after_order(run); break;
+        case CAMPAIGN_REQUEST: good = give_order(run, CAMPAIGN_REQUEST_LETTER, answer); break;
+        case CAMPAIGN_RETURN: good = give_order(run, CAMPAIGN_RETURN_LETTER, answer); break;
         case CAMPAIGN_WAIT: good = unchanged(run, answer) && hear_a_desk(run); break;
         case CAMPAIGN_FLOWN:
         case CAMPAIGN_CALLED_OFF: return unchanged(run, answer) && ended(run, answer);
@@ -358,32 +401,116 @@ static bool run_to_end(struct run *run)
     }
 }
 
+/* The start. */
+
+/* A line of the journal through the other calls and into our books, as if it happened now; false if it could not have. */
+static bool replay_line(struct run *run, struct entry entry)
+{
+    if (!books_is_order(entry))
+        return books_fits(&run->books, entry) && enter_reply(run, entry);
+    uint32_t answer = ask_next(run);
+    uint32_t kind = entry.letter == CAMPAIGN_REQUEST_LETTER ? CAMPAIGN_REQUEST : CAMPAIGN_RETURN;
+    return campaign_kind_of(answer) == kind && campaign_place_of(answer) == entry.booking
+        && enter_order(run, entry, answer);
+}
+
+/* The first line that is wrong, 0 if none is. */
+static size_t replay(struct run *run)
+{
+    struct entry entry;
+    for (size_t line = 1; line <= journal_lines(run->journal); line++)
+        if (!journal_entry(run->journal, line, &entry) || !replay_line(run, entry))
+            return line;
+    return 0;
+}
+
+/* The file is left as it is, for whoever knows what it was. */
+static bool refuse_journal(struct run *run, size_t line, uint32_t answer, const uint8_t found[CAMPAIGN_STATE_LENGTH])
+{
+    if (campaign_kind_of(answer) != CAMPAIGN_REFUSED || campaign_refusal_of(answer) != CAMPAIGN_WRONG_LINE
+        || campaign_place_of(answer) != (line < 65535 ? line : 65535))
+        return blame(run, "a journal with a wrong line was not refused with that line", answer);
+    for (size_t i = 0; i < CAMPAIGN_STATE_LENGTH; i++)
+        if (found[i] != UNWRITTEN)
+            return blame(run, "a refused journal changed the state", answer);
+    fprintf(stderr, "dispatcher: %s: ", run->journal->path);
+    words_write_refusal(stderr, campaign_refusal_of(answer), campaign_place_of(answer));
+    fputs("; the file is left as it is\n", stderr);
+    run->outcome = JOURNAL_REFUSED;
+    return false;
+}
+
+/* Asks the library and works it out from the lines too; both must come to the same. */
+static bool take_up_journal(struct run *run)
+{
+    uint8_t found[CAMPAIGN_STATE_LENGTH];
+    uint32_t answer = ask_restart(run, found);
+    size_t wrong = replay(run);
+    if (run->outcome != ENDED)
+        return false;
+    return wrong != 0 ? refuse_journal(run, wrong, answer, found) : restart_agrees(run, answer, found);
+}
+
+/* What was open may not have reached its desk, and its reply may be lost. */
+static void send_again(struct run *run)
+{
+    for (unsigned booking = 1; booking <= run->plan->bookings; booking++) {
+        if (run->state[booking] == CAMPAIGN_REQUESTED)
+            send_order(run, (struct entry) {CAMPAIGN_REQUEST_LETTER, booking}, "once more, ");
+        if (run->state[booking] == CAMPAIGN_RETURNING)
+            send_order(run, (struct entry) {CAMPAIGN_RETURN_LETTER, booking}, "once more, ");
+    }
+}
+
+static bool go_on(struct run *run)
+{
+    size_t lines = journal_lines(run->journal);
+    if (run->journal->tail > 0)
+        say(run, "  -- the journal's last %u bytes are no whole line and are cut off\n", (unsigned) run->journal->tail);
+    if (!journal_cut(run->journal)) {
+        run->outcome = JOURNAL_FAILED;
+        return false;
+    }
+    if (lines == 0) {
+        say_way(run, "first");
+        return true;
+    }
+    say(run, "  -- going on after %zu lines of the journal\n", lines);
+    if (run->state[0] == 0)
+        say(run, "  -- calling off\n");
+    else
+        say_way(run, "now");
+    send_again(run);
+    return hear_repeats(run, true);
+}
+
 static bool start(struct run *run)
 {
     uint32_t answer = ask_start(run);
-    if (campaign_kind_of(answer) != CAMPAIGN_ACCEPTED || run->state[0] != 1 || !books_agree(run))
+    if (campaign_kind_of(answer) != CAMPAIGN_ACCEPTED || !books_agree(run))
         return blame(run, "start did not begin with way 1 and all bookings free", answer);
-    say(run, "campaign of seed %" PRIu64 ": %u bookings, %u ways; desks refuse %u in 100\n", run->seed,
+    if (!take_up_journal(run))
+        return false;
+    say(run, "campaign of seed %" PRIu64 ": %u bookings, %u ways; desks refuse %u in 100\n", run->task->seed,
         run->plan->bookings, run->plan->ways, run->desks.refusing);
-    say(run, "  -- first way 1:");
-    say_set(run, run->plan->way[1]);
-    say(run, "\n");
-    return true;
+    return go_on(run);
 }
 
-bool dispatch(const struct plan *plan, uint64_t seed, FILE *log, struct tally *tally)
+enum outcome dispatch(const struct task *task, struct journal *journal, struct tally *tally)
 {
-    struct run run = {.plan = plan, .seed = seed, .log = log, .tally = tally};
+    struct run run = {.task = task, .plan = task->plan, .journal = journal, .tally = tally, .outcome = ENDED};
     run.state = malloc(CAMPAIGN_STATE_LENGTH);
     if (run.state == NULL) {
         fputs("dispatcher: no memory for a state\n", stderr);
-        return false;
+        return LIBRARY_FAULT;
     }
     /* Start must write every byte, whatever stood there. */
-    memset(run.state, 0xA5, CAMPAIGN_STATE_LENGTH);
-    desks_open(&run.desks, seed);
+    memset(run.state, UNWRITTEN, CAMPAIGN_STATE_LENGTH);
+    desks_open(&run.desks, task->seed);
+    books_open(&run.books, task->plan);
     tally->campaigns++;
-    bool good = start(&run) && run_to_end(&run);
+    if (start(&run))
+        run_to_end(&run);
     free(run.state);
-    return good;
+    return run.outcome;
 }

@@ -1,7 +1,8 @@
-/* One campaign from start to end over the library, with books of its own. */
+/* One campaign over the library, from its start or its journal to its end. */
 #ifndef DISPATCH_H
 #define DISPATCH_H
 
+#include "journal.h"
 #include "plan.h"
 
 struct tally {
@@ -11,14 +12,28 @@ struct tally {
     unsigned long requests, returns;
     unsigned long confirmed, declined, returned, kept;
     unsigned long misfits;
+    unsigned long discarded;
     unsigned long switches;
 };
 
+struct task {
+    const struct plan *plan;
+    uint64_t seed;  /* of the desks */
+    uint64_t pause; /* milliseconds before each step */
+    FILE *log;      /* null: none */
+};
+
+enum outcome {
+    ENDED,
+    LIBRARY_FAULT,  /* the library did something that it must not */
+    JOURNAL_FAILED, /* a line could not be stored, or the tail not cut off */
+    JOURNAL_REFUSED /* it is not one of this sheet, or is damaged */
+};
+
 /*
- * Runs a campaign with the desks of this seed and adds it to the tally. Its
- * log goes to log, or nowhere if that is null. False, with a message on
- * stderr, if the library did something that it must not.
+ * Goes on with the campaign of this journal, which may be empty, and adds what
+ * was done to the tally. All but the end has a message on stderr.
  */
-bool dispatch(const struct plan *plan, uint64_t seed, FILE *log, struct tally *tally);
+enum outcome dispatch(const struct task *task, struct journal *journal, struct tally *tally);
 
 #endif

@@ -1,10 +1,12 @@
 /*
  * A dispatcher over the campaign library, with simulated desks.
  *
- *     dispatcher [--seed N] [--campaigns N] PLANFILE
+ *     dispatcher [--seed N] [--pause MS] [--journal FILE | --campaigns N] PLANFILE
  *
  * One campaign writes its log; several are quiet and end in a summary. The
  * first has seed N, the next N + 1 and so on, so each can be repeated alone.
+ * A campaign with a journal can be stopped at any moment and goes on when the
+ * same command is given again.
  */
 #include "dispatch.h"
 #include "words.h"
@@ -21,19 +23,26 @@ enum status {
     NO_FILE = 3,     /* the plan file can't be read */
     SHORT_FILE = 4,  /* the plan file ends early */
     BAD_SHEET = 5,   /* the sheet is refused for another reason */
-    NO_LOG = 6       /* the log can't be written */
+    NO_LOG = 6,      /* the log can't be written */
+    NO_JOURNAL = 7,  /* the journal can't be read or written */
+    BAD_JOURNAL = 8  /* the journal is refused */
 };
 
 static const char usage[] =
-    "usage: dispatcher [--seed N] [--campaigns N] PLANFILE\n"
+    "usage: dispatcher [--seed N] [--pause MS] [--journal FILE | --campaigns N] PLANFILE\n"
     "  --seed N        what the desks' answers are drawn from (1)\n"
+    "  --pause MS      wait so many milliseconds before each step (0)\n"
+    "  --journal FILE  keep the campaign's journal in this file; if there is one already, go on from it\n"
     "  --campaigns N   run N campaigns quietly, each with the next seed, and print a summary\n"
     "status: 0 done, 1 fault in the library, 2 wrong option, 3 file can't be read,\n"
-    "        4 file ends early, 5 sheet refused, 6 log can't be written\n";
+    "        4 file ends early, 5 sheet refused, 6 log can't be written,\n"
+    "        7 journal can't be read or written, 8 journal refused\n";
 
 struct options {
     uint64_t seed;
+    uint64_t pause;
     uint64_t campaigns; /* 0: one, with its log */
+    const char *journal;
     const char *path;
     bool help;
 };
@@ -63,26 +72,50 @@ static bool take_path(struct options *options, const char *path)
     return true;
 }
 
+static uint64_t *number_named(struct options *options, const char *name)
+{
+    if (strcmp(name, "--seed") == 0)
+        return &options->seed;
+    if (strcmp(name, "--pause") == 0)
+        return &options->pause;
+    return strcmp(name, "--campaigns") == 0 ? &options->campaigns : NULL;
+}
+
+/* An option, and in value the word after it; used says whether it took that word. */
+static bool take_option(struct options *options, const char *name, const char *value, bool *used)
+{
+    uint64_t *number = number_named(options, name);
+    *used = true;
+    if (number != NULL)
+        return (take_number(value, number) && (number != &options->campaigns || *number > 0))
+            || complain("a number must follow, for --campaigns at least 1", name);
+    if (strcmp(name, "--journal") == 0) {
+        if (options->journal != NULL || value == NULL || *value == '\0')
+            return complain("one file must follow, and only once", name);
+        options->journal = value;
+        return true;
+    }
+    *used = false;
+    if (name[0] == '-' && name[1] != '\0')
+        return complain("unknown option", name);
+    return take_path(options, name);
+}
+
 static bool take_options(struct options *options, char **words)
 {
     *options = (struct options) {.seed = 1};
     for (; *words != NULL; words++) {
+        bool used;
         if (strcmp(*words, "--help") == 0) {
             options->help = true;
             return true;
         }
-        bool seed = strcmp(*words, "--seed") == 0;
-        if (seed || strcmp(*words, "--campaigns") == 0) {
-            const char *name = *words++;
-            uint64_t *number = seed ? &options->seed : &options->campaigns;
-            if (!take_number(*words, number) || (!seed && *number == 0))
-                return complain("a number must follow, for --campaigns at least 1", name);
-        } else if ((*words)[0] == '-' && (*words)[1] != '\0') {
-            return complain("unknown option", *words);
-        } else if (!take_path(options, *words)) {
+        if (!take_option(options, words[0], words[1], &used))
             return false;
-        }
+        words += used;
     }
+    if (options->journal != NULL && options->campaigns != 0)
+        return complain("--journal is for one campaign, without --campaigns", NULL);
     return options->path != NULL || complain("no plan file given", NULL);
 }
 
@@ -125,17 +158,35 @@ static void write_summary(const struct plan *plan, const struct tally *t, const 
     printf("  called off:      %lu\n", t->called_off);
     printf("  requests %lu (confirmed %lu, refused %lu), returns %lu (taken back %lu, kept %lu)\n", t->requests,
            t->confirmed, t->declined, t->returns, t->returned, t->kept);
-    printf("  ways changed %lu times; %lu replies fitted nothing and were refused\n", t->switches, t->misfits);
+    printf("  ways changed %lu times; %lu replies fitted nothing and were refused, %lu came again and were discarded\n",
+           t->switches, t->misfits, t->discarded);
+}
+
+static enum status run_campaign(const struct task *task, const char *path, struct tally *tally)
+{
+    static const enum status status[] = {
+        [ENDED] = DONE, [LIBRARY_FAULT] = FAULT, [JOURNAL_FAILED] = NO_JOURNAL, [JOURNAL_REFUSED] = BAD_JOURNAL};
+    struct journal journal;
+    if (!journal_open(&journal, path))
+        return NO_JOURNAL;
+    enum outcome outcome = dispatch(task, &journal, tally);
+    journal_close(&journal);
+    return status[outcome];
 }
 
 static enum status run_campaigns(const struct plan *plan, const struct options *options)
 {
     struct tally tally = {0};
-    if (options->campaigns == 0)
-        return dispatch(plan, options->seed, stdout, &tally) ? DONE : FAULT;
-    for (uint64_t i = 0; i < options->campaigns; i++)
-        if (!dispatch(plan, options->seed + i, NULL, &tally))
-            return FAULT;
+    struct task task = {.plan = plan, .seed = options->seed, .pause = options->pause};
+    if (options->campaigns == 0) {
+        task.log = stdout;
+        return run_campaign(&task, options->journal, &tally);
+    }
+    for (uint64_t i = 0; i < options->campaigns; i++, task.seed++) {
+        enum status status = run_campaign(&task, NULL, &tally);
+        if (status != DONE)
+            return status;
+    }
     write_summary(plan, &tally, options->path);
     return DONE;
 }
@@ -157,6 +208,9 @@ int main(int count, char **words)
         fputs(usage, stdout);
         return flush_log(DONE);
     }
+    /* The log of a campaign that is killed shall show how far it came. */
+    if (options.journal != NULL || options.pause != 0)
+        setvbuf(stdout, NULL, _IOLBF, BUFSIZ);
     struct plan plan;
     enum status status = load(&plan, options.path);
     if (status == DONE)

@@ -28,6 +28,12 @@ static const char *before_place(uint32_t refusal)
     }
 }
 
+static void write_wrong_line(FILE *out, uint32_t place)
+{
+    fprintf(out, "the journal is damaged or belongs to another sheet: line %u%s", (unsigned) place,
+            place == 65535 ? " or one after it" : "");
+}
+
 static void write_stranding(FILE *out, uint32_t place)
 {
     fprintf(out,
@@ -44,6 +50,8 @@ void words_write_refusal(FILE *out, uint32_t refusal, uint32_t place)
         fprintf(out, "%s %u", words, (unsigned) place);
     else if (refusal == CAMPAIGN_STRANDING)
         write_stranding(out, place);
+    else if (refusal == CAMPAIGN_WRONG_LINE)
+        write_wrong_line(out, place);
     else if (refusal == CAMPAIGN_SHORT_BUFFER)
         fputs("a buffer is too short for the text", out);
     else if (refusal == CAMPAIGN_UNSOUND)

@@ -8,9 +8,15 @@
 uint32_t __real_campaign_next_order(const uint8_t *sheet, size_t sheet_len, uint8_t *state, size_t state_len);
 uint32_t __real_campaign_reply(const uint8_t *sheet, size_t sheet_len, uint8_t *state, size_t state_len,
                                uint8_t letter, uint32_t booking);
+uint32_t __real_campaign_journal_line(uint8_t letter, uint32_t booking, uint8_t *line, size_t line_len);
+uint32_t __real_campaign_restart(const uint8_t *sheet, size_t sheet_len, const uint8_t *journal, size_t journal_len,
+                                 uint8_t *state, size_t state_len);
 uint32_t __wrap_campaign_next_order(const uint8_t *sheet, size_t sheet_len, uint8_t *state, size_t state_len);
 uint32_t __wrap_campaign_reply(const uint8_t *sheet, size_t sheet_len, uint8_t *state, size_t state_len,
                                uint8_t letter, uint32_t booking);
+uint32_t __wrap_campaign_journal_line(uint8_t letter, uint32_t booking, uint8_t *line, size_t line_len);
+uint32_t __wrap_campaign_restart(const uint8_t *sheet, size_t sheet_len, const uint8_t *journal, size_t journal_len,
+                                 uint8_t *state, size_t state_len);
 
 static int lie_is(const char *lie)
 {
@@ -55,5 +61,60 @@ uint32_t __wrap_campaign_reply(const uint8_t *sheet, size_t sheet_len, uint8_t *
     if (lie_is("loses what can be asked for again") && letter == CAMPAIGN_DECLINED
         && campaign_kind_of(answer) == CAMPAIGN_ACCEPTED && state[booking] == CAMPAIGN_FREE)
         state[booking] = CAMPAIGN_LOST;
+    return answer;
+}
+
+uint32_t __wrap_campaign_journal_line(uint8_t letter, uint32_t booking, uint8_t *line, size_t line_len)
+{
+    if (lie_is("writes another letter") && letter == CAMPAIGN_DECLINED)
+        letter = CAMPAIGN_CONFIRMED;
+    if (lie_is("writes another booking"))
+        booking = booking % CAMPAIGN_MOST_BOOKINGS + 1;
+    uint32_t answer = __real_campaign_journal_line(letter, booking, line, line_len);
+    if (lie_is("writes the number to the left")) {
+        line[1] = line[4];
+        line[4] = ' ';
+    }
+    if (lie_is("writes no line feed"))
+        line[5] = 0;
+    if (lie_is("writes a line too short"))
+        return answer - 1;
+    return answer;
+}
+
+uint32_t __wrap_campaign_restart(const uint8_t *sheet, size_t sheet_len, const uint8_t *journal, size_t journal_len,
+                                 uint8_t *state, size_t state_len)
+{
+    const size_t line = CAMPAIGN_JOURNAL_LINE_LENGTH;
+    size_t whole = journal_len - journal_len % line;
+    if (lie_is("drops the last line") && whole > 0)
+        journal_len = whole - line;
+    if (lie_is("drops the first line") && whole > 0) {
+        journal += line;
+        journal_len -= line;
+    }
+    uint32_t answer = __real_campaign_restart(sheet, sheet_len, journal, journal_len, state, state_len);
+    uint32_t refusal = campaign_refusal_of(answer);
+    uint32_t place = campaign_place_of(answer);
+    if (lie_is("takes a wrong line") && refusal == CAMPAIGN_WRONG_LINE)
+        return __real_campaign_restart(sheet, sheet_len, journal, (place - 1) * line, state, state_len);
+    if (lie_is("names another line") && refusal == CAMPAIGN_WRONG_LINE)
+        return answer + 1;
+    if (lie_is("refuses for another reason") && refusal == CAMPAIGN_WRONG_LINE)
+        return (uint32_t) CAMPAIGN_UNSOUND << 16;
+    if (lie_is("writes though it refuses") && refusal == CAMPAIGN_WRONG_LINE)
+        state[state_len - 1] = 0;
+    if (lie_is("refuses a tail") && journal_len != whole)
+        return (uint32_t) CAMPAIGN_WRONG_LINE << 16 | (uint32_t) (whole / line + 1);
+    if (lie_is("refuses a right journal") && refusal == 0 && whole > 0)
+        return (uint32_t) CAMPAIGN_WRONG_LINE << 16 | 1;
+    if (lie_is("forgets the way") && refusal == 0)
+        state[0] = 1;
+    if (lie_is("forgets what is open") && refusal == 0)
+        for (size_t i = 1; i < state_len; i++)
+            if (state[i] == CAMPAIGN_REQUESTED || state[i] == CAMPAIGN_RETURNING)
+                state[i] = CAMPAIGN_FREE;
+    if (lie_is("writes no state") && refusal == 0)
+        memset(state, 0xA5, state_len);
     return answer;
 }
