@@ -11,10 +11,9 @@
 #include "journal.h"
 #include "plan.h"
 
-/* To one booking's desk its orders are numbered from 1. */
 struct order {
-    struct entry what; /* number 0: none */
-    unsigned long number;
+    struct entry what;
+    unsigned long number; /* among the orders to this booking's desk, from 1; 0: none */
 };
 
 struct reply {

@@ -448,7 +448,12 @@ static bool take_up_journal(struct run *run)
     size_t wrong = replay(run);
     if (run->outcome != ENDED)
         return false;
-    return wrong != 0 ? refuse_journal(run, wrong, answer, found) : restart_agrees(run, answer, found);
+    if (wrong != 0)
+        return refuse_journal(run, wrong, answer, found);
+    if (!restart_agrees(run, answer, found))
+        return false;
+    memcpy(run->state, found, sizeof found);
+    return true;
 }
 
 /* What was open may not have reached its desk, and its reply may be lost. */

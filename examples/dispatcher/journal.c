@@ -72,6 +72,16 @@ static bool make_room(struct journal *journal, size_t size)
     return true;
 }
 
+/* A program that was stopped may have written lines that it did not sync; they can be read, and count from now on. */
+static bool sync_file(const struct journal *journal)
+{
+    int result;
+    do
+        result = fsync(journal->file);
+    while (result != 0 && errno == EINTR);
+    return result == 0 || complain(journal, "can't be synced", errno);
+}
+
 /* Also the file's name must reach the disk, or all its lines are lost with it. It is done at every start, for an earlier
    one may have been stopped before it came to this. */
 static bool sync_folder(const struct journal *journal)
@@ -97,7 +107,7 @@ static bool open_file(struct journal *journal)
     if (journal->file < 0)
         return complain(journal, "can't be opened for reading and writing", errno);
     return lock(journal) && is_a_file(journal, &facts) && make_room(journal, (size_t) facts.st_size)
-        && read_all(journal, (size_t) facts.st_size) && sync_folder(journal);
+        && read_all(journal, (size_t) facts.st_size) && sync_file(journal) && sync_folder(journal);
 }
 
 bool journal_open(struct journal *journal, const char *path)
@@ -121,10 +131,10 @@ bool journal_cut(struct journal *journal)
 {
     if (journal->tail == 0)
         return true;
-    if (ftruncate(journal->file, (off_t) journal->length) != 0 || fsync(journal->file) != 0)
+    if (ftruncate(journal->file, (off_t) journal->length) != 0)
         return complain(journal, "can't be cut to whole lines", errno);
     journal->tail = 0;
-    return make_room(journal, journal->length);
+    return sync_file(journal) && make_room(journal, journal->length);
 }
 
 static bool write_line(const struct journal *journal, const uint8_t *line)
@@ -138,12 +148,29 @@ static bool write_line(const struct journal *journal, const uint8_t *line)
             return complain(journal, "can't be written", count < 0 ? errno : EIO);
         given += (size_t) count;
     }
-    return fdatasync(journal->file) == 0 || complain(journal, "can't be synced", errno);
+    return true;
+}
+
+/* A line that can be read but is not on the disk would mislead the next start; so it is taken away, if that still works. */
+static bool sync_line(const struct journal *journal)
+{
+    int result;
+    do
+        result = fdatasync(journal->file);
+    while (result != 0 && errno == EINTR);
+    if (result == 0)
+        return true;
+    complain(journal, "can't be synced", errno);
+    if (ftruncate(journal->file, (off_t) journal->length) != 0)
+        complain(journal, "can't be cut to whole lines", errno);
+    return false;
 }
 
 bool journal_store(struct journal *journal, const uint8_t line[CAMPAIGN_JOURNAL_LINE_LENGTH])
 {
-    if (!make_room(journal, journal->length + LINE) || (journal->path != NULL && !write_line(journal, line)))
+    if (!make_room(journal, journal->length + LINE))
+        return false;
+    if (journal->path != NULL && !(write_line(journal, line) && sync_line(journal)))
         return false;
     memcpy(journal->bytes + journal->length, line, LINE);
     journal->length += LINE;

@@ -1,5 +1,6 @@
 /* The header alone: compiles first in its file and twice, as C11 and C++17;
-   its constants are the rules' numbers; the linked calls answer as it says. */
+   its constants are the rules' numbers; the linked calls answer as it says, which
+   was worked out by hand from the rules. */
 #include "campaign.h"
 #include "campaign.h"
 
@@ -30,9 +31,12 @@ FIXED(CAMPAIGN_NUMBER == 3 && CAMPAIGN_CIRCLE == 4);
 FIXED(CAMPAIGN_WAY_NOT_CLOSED == 5 && CAMPAIGN_UNUSED == 6);
 FIXED(CAMPAIGN_WAY_TWICE == 7 && CAMPAIGN_STRANDING == 8);
 FIXED(CAMPAIGN_MISFIT == 9 && CAMPAIGN_SHORT_BUFFER == 10 && CAMPAIGN_UNSOUND == 11);
+FIXED(CAMPAIGN_WRONG_LINE == 12);
 
 FIXED(CAMPAIGN_CONFIRMED == 89 && CAMPAIGN_DECLINED == 78);
 FIXED(CAMPAIGN_RETURNED == 71 && CAMPAIGN_KEPT == 75);
+FIXED(CAMPAIGN_REQUEST_LETTER == 81 && CAMPAIGN_RETURN_LETTER == 85);
+FIXED(CAMPAIGN_JOURNAL_LINE_LENGTH == 6);
 
 static int faults = 0;
 
@@ -104,9 +108,99 @@ static void calls(void)
     expect("end", campaign_next_order(sheet, length, state, sizeof state), CAMPAIGN_CALLED_OFF, 0, 0);
 }
 
+static void expect_bytes(const char *what, const void *found, const void *wanted, size_t length)
+{
+    if (memcmp(found, wanted, length) == 0)
+        return;
+    fprintf(stderr, "header: %s: other bytes\n", what);
+    faults++;
+}
+
+/* Eight bytes are lent as line_len bytes; those that are not written stay '.'. */
+static void line(const char *what, uint8_t letter, uint32_t booking, size_t line_len,
+                 uint32_t kind, uint32_t refusal, uint32_t place, const char *wanted)
+{
+    uint8_t bytes[8];
+    memset(bytes, '.', sizeof bytes);
+    expect(what, campaign_journal_line(letter, booking, bytes, line_len), kind, refusal, place);
+    expect_bytes(what, bytes, wanted, sizeof bytes);
+}
+
+static void journal_lines(void)
+{
+    line("request line", CAMPAIGN_REQUEST_LETTER, 1, 6, CAMPAIGN_ACCEPTED, 0, 6, "Q   1\n..");
+    line("return line", CAMPAIGN_RETURN_LETTER, 10, 8, CAMPAIGN_ACCEPTED, 0, 6, "U  10\n..");
+    line("confirmed line", CAMPAIGN_CONFIRMED, 9, 7, CAMPAIGN_ACCEPTED, 0, 6, "Y   9\n..");
+    line("declined line", CAMPAIGN_DECLINED, 63, 8, CAMPAIGN_ACCEPTED, 0, 6, "N  63\n..");
+    line("returned line", CAMPAIGN_RETURNED, 64, 8, CAMPAIGN_ACCEPTED, 0, 6, "G  64\n..");
+    line("kept line", CAMPAIGN_KEPT, 20, 8, CAMPAIGN_ACCEPTED, 0, 6, "K  20\n..");
+    line("no letter", 'W', 5, 8, 0, CAMPAIGN_MISFIT, 5, "........");
+    line("small letter", 'q', 64, 8, 0, CAMPAIGN_MISFIT, 64, "........");
+    line("booking 0", CAMPAIGN_CONFIRMED, 0, 8, 0, CAMPAIGN_MISFIT, 0, "........");
+    line("booking 65", CAMPAIGN_CONFIRMED, 65, 8, 0, CAMPAIGN_MISFIT, 0, "........");
+    line("booking 65537", CAMPAIGN_CONFIRMED, 65537, 8, 0, CAMPAIGN_MISFIT, 0, "........");
+    line("short line", CAMPAIGN_CONFIRMED, 5, 5, 0, CAMPAIGN_SHORT_BUFFER, 0, "........");
+    line("no line", CAMPAIGN_CONFIRMED, 5, 0, 0, CAMPAIGN_SHORT_BUFFER, 0, "........");
+    line("no letter, no line", 0, 5, 0, 0, CAMPAIGN_MISFIT, 5, "........");
+}
+
+/* The state's first five bytes after a journal, or what refuses it; then no byte is written. */
+static void restart(const char *sheet, const char *journal, size_t state_len, uint32_t kind, uint32_t refusal,
+                    uint32_t place, const char *front)
+{
+    uint8_t state[CAMPAIGN_STATE_LENGTH];
+    uint8_t wanted[CAMPAIGN_STATE_LENGTH];
+    memset(state, 0xEE, sizeof state);
+    memset(wanted, kind == CAMPAIGN_REFUSED ? 0xEE : 0, sizeof wanted);
+    if (kind != CAMPAIGN_REFUSED)
+        memcpy(wanted, front, 5);
+    expect(journal, campaign_restart((const uint8_t *) sheet, strlen(sheet), (const uint8_t *) journal,
+                                     strlen(journal), state, state_len), kind, refusal, place);
+    expect_bytes(journal, state, wanted, sizeof state);
+}
+
+static const char pair[] = "P   2   0   1\nB   1 C\nB   2 C\nA   2   1   2\n";
+
+#define TO_CHASE "Q   1\nY   1\nQ   2\nY   2\nQ   3\n"
+
+static void restarts_that_pass(void)
+{
+    restart(tanker, "", 65, CAMPAIGN_ACCEPTED, 0, 0, "\1\0\0\0\0");
+    restart(tanker, "Q   1", 65, CAMPAIGN_ACCEPTED, 0, 0, "\1\0\0\0\0");
+    restart(tanker, "Q   1\n", 65, CAMPAIGN_ACCEPTED, 0, 0, "\1\1\0\0\0");
+    restart(tanker, "Q   1\nXXXXX", 65, CAMPAIGN_ACCEPTED, 0, 0, "\1\1\0\0\0");
+    restart(tanker, "Q   1\nN   1\n", 65, CAMPAIGN_ACCEPTED, 0, 0, "\0\3\0\0\0");
+    restart(tanker, TO_CHASE "N   3\nQ   4\nN   4\nQ   4\nY", 65, CAMPAIGN_ACCEPTED, 0, 0, "\2\2\2\3\1");
+    restart(pair, "Q   1\nQ   2\nY   1\nN   2\nU   1\nK   1\nU   1\n", 65, CAMPAIGN_ACCEPTED, 0, 0, "\0\4\3\0\0");
+    restart(pair, "Q   1\nQ   2\nY   1\nN   2\nU   1\nG   1\n", 65, CAMPAIGN_ACCEPTED, 0, 0, "\0\0\3\0\0");
+}
+
+static void restarts_that_do_not(void)
+{
+    restart(tanker, "Q   2\n", 65, 0, CAMPAIGN_WRONG_LINE, 1, NULL);                /* not the one that was due */
+    restart(tanker, "U   1\n", 65, 0, CAMPAIGN_WRONG_LINE, 1, NULL);                /* nor a return */
+    restart(tanker, "Q   1\nQ   2\n", 65, 0, CAMPAIGN_WRONG_LINE, 2, NULL);         /* none was due */
+    restart(tanker, "Q   1\nN   1\nQ   1\n", 65, 0, CAMPAIGN_WRONG_LINE, 3, NULL);  /* after the end */
+    restart(tanker, "Q   1\nY   2\n", 65, 0, CAMPAIGN_WRONG_LINE, 2, NULL);         /* not requested */
+    restart(tanker, "Q   1\nG   1\n", 65, 0, CAMPAIGN_WRONG_LINE, 2, NULL);         /* not returning */
+    restart(tanker, "Q   1\nY   1\nY   1\n", 65, 0, CAMPAIGN_WRONG_LINE, 3, NULL);  /* answered already */
+    restart(tanker, TO_CHASE "N   3\nQ   3\n", 65, 0, CAMPAIGN_WRONG_LINE, 7, NULL); /* lost */
+    restart(tanker, "W   0\n", 65, 0, CAMPAIGN_WRONG_LINE, 1, NULL);
+    restart(tanker, "q   1\n", 65, 0, CAMPAIGN_WRONG_LINE, 1, NULL);
+    restart(tanker, "Q   1\nY0001\n", 65, 0, CAMPAIGN_WRONG_LINE, 2, NULL);
+    restart(tanker, "Q1   \n", 65, 0, CAMPAIGN_WRONG_LINE, 1, NULL);
+    restart(tanker, "Q   1\rY", 65, 0, CAMPAIGN_WRONG_LINE, 1, NULL);
+    restart(tanker, "Q   2\n", 64, 0, CAMPAIGN_UNSOUND, 0, NULL);
+    restart(tanker, "", 0, 0, CAMPAIGN_UNSOUND, 0, NULL);
+    restart(twin, "Q   2\n", 64, 0, CAMPAIGN_STRANDING, 259, NULL);
+}
+
 int main(void)
 {
     checks();
     calls();
+    journal_lines();
+    restarts_that_pass();
+    restarts_that_do_not();
     return faults == 0 ? 0 : 1;
 }
