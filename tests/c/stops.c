@@ -25,7 +25,7 @@
 #include <time.h>
 #include <unistd.h>
 
-enum { LINE = 6, SEEDS = 8, LONGEST = 360 };
+enum { LINE = 6, LONGEST = 360 };
 
 struct bytes {
     char *at; /* with a 0 behind the last */
@@ -206,10 +206,11 @@ static struct campaign fly(const char *sheet, unsigned seed)
 }
 
 /* Of some seeds the one with the longest journal: on a good day little happens. */
-static struct campaign fly_a_hard_one(const char *sheet, unsigned first)
+static struct campaign fly_a_hard_one(const char *sheet, unsigned place, unsigned seeds)
 {
+    unsigned first = 1000 * place;
     struct campaign best = fly(sheet, first);
-    for (unsigned seed = first + 1; seed < first + SEEDS; seed++) {
+    for (unsigned seed = first + 1; seed < first + seeds; seed++) {
         struct campaign other = fly(sheet, seed);
         bool better = other.journal.length <= LONGEST
             && (other.journal.length > best.journal.length || best.journal.length > LONGEST);
@@ -367,7 +368,7 @@ static void bytes_mode(char **sheets)
 {
     struct campaign last = {.sheet = NULL};
     for (unsigned i = 0; sheets[i] != NULL; i++) {
-        struct campaign campaign = fly_a_hard_one(sheets[i], 1000 * (i + 1));
+        struct campaign campaign = fly_a_hard_one(sheets[i], i + 1, 20);
         note(&campaign);
         if (campaign.journal.length > LONGEST)
             fail(&campaign, "too long a journal for this");
@@ -408,19 +409,34 @@ static void check_prefix(const struct campaign *campaign, size_t length, const c
     free(lines.at);
 }
 
+/* Runs it until the journal has so many bytes. */
 static void stop_in_write(const struct campaign *campaign, size_t room)
 {
     char number[24];
     snprintf(number, sizeof number, "%zu", room);
     setenv("DISK_STOP", number, 1);
-    unlink(journal);
     int status = status_of(campaign, launch(campaign, "0"));
     unsetenv("DISK_STOP");
     if (!WIFSIGNALED(status) || WTERMSIG(status) != SIGKILL)
         fail(campaign, "not killed at byte %zu", room);
     check_prefix(campaign, room, "killed in a write");
-    check_end(campaign, run(campaign), "killed in a write");
     met.in_write++;
+}
+
+static void stop_once(const struct campaign *campaign, size_t room)
+{
+    unlink(journal);
+    stop_in_write(campaign, room);
+    check_end(campaign, run(campaign), "killed in a write");
+}
+
+/* Killed at every byte, one after the other: no run brings it further than one byte. */
+static void stop_always(const struct campaign *campaign)
+{
+    unlink(journal);
+    for (size_t room = 0; room < campaign->journal.length; room++)
+        stop_in_write(campaign, room);
+    check_end(campaign, run(campaign), "killed at each byte in turn");
 }
 
 static void fill_up(const struct campaign *campaign, size_t room)
@@ -443,10 +459,11 @@ static void fill_up(const struct campaign *campaign, size_t room)
 static void disk_mode(char **sheets)
 {
     for (unsigned i = 0; sheets[i] != NULL; i++) {
-        struct campaign campaign = fly_a_hard_one(sheets[i], 1000 * (i + 1));
+        struct campaign campaign = fly_a_hard_one(sheets[i], i + 1, 8);
         met.campaigns++;
+        stop_always(&campaign);
         for (size_t room = 0; room < campaign.journal.length; room++) {
-            stop_in_write(&campaign, room);
+            stop_once(&campaign, room);
             fill_up(&campaign, room);
         }
         free_campaign(&campaign);
@@ -505,10 +522,8 @@ static void kills_mode(unsigned long wanted, char **sheets)
     struct timespec now;
     clock_gettime(CLOCK_REALTIME, &now);
     chance = (uint64_t) now.tv_nsec ^ (uint64_t) now.tv_sec << 30 ^ (uint64_t) getpid() << 50;
-    for (unsigned i = 0; met.kills < wanted; i++) {
-        if (sheets[i] == NULL)
-            i = 0;
-        struct campaign campaign = fly_a_hard_one(sheets[i], 1000 * (i + 1));
+    for (unsigned i = 0; met.kills < wanted; i = sheets[i + 1] != NULL ? i + 1 : 0) {
+        struct campaign campaign = fly_a_hard_one(sheets[i], i + 1, 4);
         met.campaigns++;
         unlink(journal);
         /* Short enough for some kills in each, long enough to come to its end. */

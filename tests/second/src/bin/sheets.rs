@@ -1,9 +1,12 @@
-//! sheets FOLDER COUNT SEED: writes so many different sheets that pass, of at most eight bookings, as 001.txt and so on.
+//! sheets FOLDER COUNT SEED: writes so many different sheets that pass, of three to eight bookings, as 001.txt and so on.
 
 use second::dice::Dice;
-use second::{check, generate, plan};
+use second::generate::{random_plan, Size, SMALL};
+use second::{check, plan};
 use std::collections::HashSet;
 use std::process::ExitCode;
+
+const SIZE: Size = Size { fewest: 3, ..SMALL };
 
 /// Sheets that pass, each another one; of every five at most one has a single way.
 fn sheets(count: usize, seed: u64) -> Vec<String> {
@@ -14,7 +17,7 @@ fn sheets(count: usize, seed: u64) -> Vec<String> {
         if found.len() == count {
             break;
         }
-        let plan = generate::random_plan(&mut Dice::for_round(seed, round), generate::SMALL);
+        let plan = random_plan(&mut Dice::for_round(seed, round), SIZE);
         let one_way = plan.ways.len() == 1;
         let text = plan::write(&plan);
         if check::check(plan).is_err() || (one_way && 5 * single > found.len()) || !met.insert(text.clone()) {
