@@ -526,10 +526,10 @@ static void kills_mode(unsigned long wanted, char **sheets)
         struct campaign campaign = fly_a_hard_one(sheets[i], i + 1, 4);
         met.campaigns++;
         unlink(journal);
-        /* Short enough for some kills in each, long enough to come to its end. */
+        /* Short enough for some kills in each; longer each time, so that a slow machine comes to the end too. */
         unsigned longest = 1000 + (unsigned) (campaign.journal.length / LINE) * 600;
         while (!run_and_kill(&campaign, longest))
-            continue;
+            longest += longest / 16;
         free_campaign(&campaign);
     }
     printf("stops: %lu campaigns killed %lu times while they ran, %lu times with part of a line written, %lu orders sent again, "
