@@ -16,9 +16,10 @@ use Rattle.journal.specs.declared.Entry.the-variants.{Whole, End}
 use Rattle.journal.specs.declared.Turn.{Turn}
 use Rattle.network.specs.declared.Network.{Network}
 use Rattle.run.specs.declared.Run.{Run}
-use Rattle.run.specs.declared.Replied.{Replied}
-use Rattle.journal_calls.specs.Restart.{lineTaken, replayFrom}
+use Rattle.journal_calls.specs.Restart.{lineTaken, stepped, replayFrom}
+use Rattle.journal_calls.specs.declared.Stepped.{Stepped}
 use Rattle.journal_calls.specs.declared.Replayed.{Replayed}
+use Rattle.journal_calls.proofs.Lines.{step-off, step-on}
 
 module _ (j : List ℕ) (at : ℕ) (t : Turn) (e : t ≡ turnAt j at) where
   -- no whole line is left
@@ -52,19 +53,16 @@ module _ (g : Network) (j : List ℕ) where
   unfolding replayFrom
   replay-end at i r h = let z : (length j - at) / 6 ≡ 0 = omega arith in rw z
 
-  module _ (at i : ℕ) (r : Run) (room : at + 6 ≤ length j) (line : Line) (el : line ≡ lineOf (take 6 (drop at j))) (u : Replied) (eu : u ≡ lineTaken g r line) where
+  module _ (at i : ℕ) (r : Run) (room : at + 6 ≤ length j) (line : Line) (el : line ≡ lineOf (take 6 (drop at j))) (u : Stepped) (eu : u ≡ stepped g r line) where
     one : (length j - at) / 6 ≡ suc ((length j - (at + 6)) / 6)
     one = omega arith
 
-    taken-is : u ≡ lineTaken g r (lineOf (take 6 (drop at j)))
-    taken-is = eu ∙ rw el
-
     pub replay-wrong : not (u .taken) ≡ true → record { wrong = i; run = r } ≡ rest at i r
     unfolding replayFrom
-    replay-wrong n = let z : lineTaken g r (lineOf (take 6 (drop at j))) .taken ≡ false = rw (← taken-is) (not-true (u .taken) n) in rw (one, z)
+    replay-wrong n = let z = step-off g r line u eu (not-true (u .taken) n) in rw (one, ← el, z)
 
     pub replay-on : not (u .taken) ≡ false → rest (at + 6) (i + 1) (u .run) ≡ rest at i r
     unfolding replayFrom
     replay-on n =
-        let z : lineTaken g r (lineOf (take 6 (drop at j))) .taken ≡ true = rw (← taken-is) (not-false (u .taken) n) in
-        rw (one, z, taken-is) (ap (λ (s : List ℕ). replayFrom ((length j - (at + 6)) / 6) (i + 1) g (lineTaken g r (lineOf (take 6 (drop at j))) .run) s) (sym (drop-drop 6 at j)))
+        let z = step-on g r line u eu (not-false (u .taken) n) in
+        rw (one, ← el, z .0, z .1) (ap (λ (s : List ℕ). replayFrom ((length j - (at + 6)) / 6) (i + 1) g (lineTaken g r line .run) s) (sym (drop-drop 6 at j)))

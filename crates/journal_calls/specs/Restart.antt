@@ -1,6 +1,6 @@
 -- Restart: the state that follows the whole lines of a journal, from the start. A tail shorter than six bytes is dropped.
 -- Assumes nothing.
-use mathlib.Core.Bool.{Bool, false, _&&_, cond}
+use mathlib.Core.Bool.{Bool, true, false, _&&_, cond}
 use mathlib.Core.List.{List}
 use Prim.Native.Nat.{ℕ, zero, suc, _+_, _/_}
 use lib.Dec.{eqb, leb}
@@ -9,7 +9,7 @@ use Rattle.event_lines.specs.Line.{Q, U, lineOf}
 use Rattle.event_lines.specs.declared.Line.{Line}
 use Rattle.event_lines.specs.declared.Line.the-variants.{Given, Misformed}
 use Rattle.network.specs.declared.Network.{Network}
-use Rattle.run.specs.State.{start}
+use Rattle.run.specs.State.{start, standing}
 use Rattle.run.specs.Bytes.{bytesOf}
 use Rattle.run.specs.Orders.{next}
 use Rattle.run.specs.Replies.{misfits}
@@ -21,6 +21,7 @@ use Rattle.guarantee.specs.Answers.{pack, unsound}
 use Rattle.guarantee.specs.Machine.{replyTo}
 use Rattle.calls.specs.Calls.{networkIn, sheetPasses, checkCall}
 use Rattle.journal_calls.specs.Journal.{isOrder}
+use Rattle.journal_calls.specs.declared.Stepped.{Stepped}
 use Rattle.journal_calls.specs.declared.Replayed.{Replayed}
 
 -- a line `Q b` or `U b` is right where next order gives exactly that order
@@ -38,6 +39,12 @@ orderTaken g r l b = record { taken = due l b (next g r .order); run = next g r 
 unfoldable pub lineTaken : Network → Run → Line → Replied
 lineTaken g r (Given l b) = cond (isOrder l) (orderTaken g r l b) (replyTo g r l b)
 lineTaken g r Misformed = misfits r
+
+-- the same with how the bookings stand then, so that they need not be looked at again; a line that is not taken leads nowhere
+unfoldable pub stepped : Network → Run → Line → Stepped
+stepped g r line =
+    let t = lineTaken g r line in
+    cond (t .taken) (record { taken = true; run = t .run; standing = standing g (t .run) }) (record { taken = false; run = r; standing = standing g r })
 
 -- so many lines, of which the first has number i: the number of the first wrong one, or 0, and the state after those before it
 unfoldable pub replayFrom : ℕ → ℕ → Network → Run → List ℕ → Replayed

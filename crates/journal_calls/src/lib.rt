@@ -7,18 +7,26 @@ use run::Replied;
 use run::Run;
 use standing::Standing;
 ghost use mathlib.Core.Path.{_≡_};
-ghost use Prim.Native.Nat.{suc, _≤_};
+ghost use Prim.Native.Nat.{suc, _^_, _≤_, _<_};
 ghost use lib.Dec.{eqb};
-ghost use lib.ListN.{length};
+ghost use lib.ListN.{length, getD};
 ghost use mathlib.Core.Bool.{_&&_};
+ghost use Rattle.standing.specs.Standing.{moved};
 ghost use Rattle.run.specs.State.{standing};
 ghost use Rattle.journal_calls.specs.Journal.{isOrder, isLetter, hasLine, journalLineCall, journalLineLeaves};
-ghost use Rattle.journal_calls.specs.Restart.{due, orderTaken, lineTaken, replay, linePlace, restartCall, restartLeaves};
+ghost use Rattle.journal_calls.specs.Restart.{due, orderTaken, lineTaken, stepped, replay, linePlace, restartCall, restartLeaves};
 
 // A journal replayed: the number of its first wrong line, or 0, and the state after the lines before it.
 pub struct Replayed {
     pub wrong: usize,
     pub run: Run,
+}
+
+// A line taken, or not: the state after it, and how the bookings stand then.
+struct Stepped {
+    taken: bool,
+    run: Run,
+    standing: Standing,
 }
 
 // ---- a line
@@ -113,22 +121,53 @@ fn take_order(g: Network, r: Run, s: Standing, letter: u8, booking: u32) -> Repl
     Replied { taken, run }
 }
 
-// Takes a line: the order that is due, or a reply that fits.
-fn take_line(g: Network, r: Run, line: Line) -> Replied
-    requires { ⌜ (g .n ≤ 64) × (g .a ≤ 16) × (r .way ≤ 16) ⌝ }
-    ensures { λ t. ⌜ t ≡ lineTaken g r line ⌝ }
+// Takes a line of this letter and booking: the order that is due, or a reply that fits.
+fn take_line(g: Network, r: Run, s: Standing, letter: u8, booking: u32) -> Replied
+    requires { ⌜ (g .n ≤ 64) × (g .a ≤ 16) × (r .way ≤ 16) × (s ≡ standing g r) ⌝ }
+    ensures { λ t. ⌜ t ≡ lineTaken g r (Line.Given letter booking) ⌝ }
 {
-    let Line::Given(letter, booking) = line else {
-        return Replied {
-            taken: false,
-            run: r,
-        };
-    };
-    let s = r.standing(g.n);
     if is_order(letter) {
         return take_order(g, r, s, letter, booking);
     }
     calls::reply_to(r, g, s, letter, booking)
+}
+
+// How the bookings stand in the state `after`, where s is how they stood and only that of index b has another code.
+fn stand_after(s: Standing, after: Run, b: usize) -> Standing
+    requires { ⌜ b < 64 ⌝ }
+    ensures { λ m. ⌜ m ≡ moved s (2 ^ b) (getD (after .code) b 0) ⌝ }
+{
+    let code = after.code;
+    s.moved(sets::bit(b), code[b])
+}
+
+// One line of the replay.
+fn step(g: Network, r: Run, s: Standing, line: Line) -> Stepped
+    requires { ⌜ (g .n ≤ 64) × (g .a ≤ 16) × (r .way ≤ 16) × (s ≡ standing g r) ⌝ }
+    ensures { λ t. ⌜ t ≡ stepped g r line ⌝ }
+{
+    let Line::Given(letter, booking) = line else {
+        return Stepped {
+            taken: false,
+            run: r,
+            standing: s,
+        };
+    };
+    let t = take_line(g, r, s, letter, booking);
+    if !t.taken {
+        return Stepped {
+            taken: false,
+            run: r,
+            standing: s,
+        };
+    }
+    let run = t.run;
+    let standing = stand_after(s, run, booking as usize - 1);
+    Stepped {
+        taken: true,
+        run,
+        standing,
+    }
 }
 
 // Takes the journal's whole lines one after the other, from the start.
@@ -137,6 +176,7 @@ fn replay(g: Network, journal: &[u8]) -> Replayed
     ensures { λ t. ⌜ t ≡ replay g (now (journal .entry)) ⌝ }
 {
     let mut run = Run::start();
+    let mut standing = run.standing(g.n);
     let mut at = 0;
     let mut number = 1;
     loop {
@@ -145,12 +185,14 @@ fn replay(g: Network, journal: &[u8]) -> Replayed
         let Entry::Whole(line) = entry else {
             return Replayed { wrong: 0, run };
         };
-        let t = take_line(g, run, line);
+        let t = step(g, run, standing, line);
         if !t.taken {
             return Replayed { wrong: number, run };
         }
         let after = t.run;
         run = after;
+        let stands = t.standing;
+        standing = stands;
         at = turn.at;
         number += 1;
     }

@@ -1,37 +1,25 @@
 -- `journal_calls::take_line` meets its contract.
 -- Assumes nothing.
-use Rattle.journal_calls.specs.Restart.{lineTaken}
 use Rattle.journal_calls.proofs.Lines.{by-order, by-reply}
 use borrow.Author.Needs.{needs}
 use Rattle.journal_calls.proofs.take_line.Statement.{statement}
 use Rattle.journal_calls.proofs.take_line.Tie as tie
 
-returns : tie.Need-returns
-unfolding lineTaken
-returns c = rw (c .enum-told .given .1)
+is-order-requires : tie.Need-is-order-requires
+is-order-requires c κs = search needs
 
 take-order-requires : tie.Need-take-order-requires
 take-order-requires c κs = search needs
+
+returns : tie.Need-returns
+returns c = by-order _ _ _ _ _ (c .before .before .is-order .ensures) _ (c .before .if1 .taken) (c .take-order .ensures)
 
 reply-to-requires : tie.Need-reply-to-requires
 reply-to-requires c κs = search needs
 
 returns-2 : tie.Need-returns-2
-returns-2 c = by-order _ _ _ _ _ (c .before .before .before .before .before .line .given .1) _ (c .before .before .is-order .ensures) _ (c .before .if1 .taken) (c .take-order .ensures)
-
-returns-3 : tie.Need-returns-3
-returns-3 c = by-reply _ _ _ _ _ (c .before .before .before .before .before .line .given .1) _ (c .before .before .is-order .ensures) _ (c .before .if1 .left) (c .reply-to .ensures)
+returns-2 c = by-reply _ _ _ _ _ (c .before .before .is-order .ensures) _ (c .before .if1 .left) (c .reply-to .ensures)
 
 pub take-line-spec : {M : Type 1} → statement M
 take-line-spec =
-    tie.close
-    (tie.spec
-    (search needs)
-    (search needs)
-    returns
-    (search needs)
-    (search needs)
-    take-order-requires
-    returns-2
-    reply-to-requires
-    returns-3)
+    tie.close (tie.spec is-order-requires take-order-requires returns reply-to-requires returns-2)
