@@ -15,14 +15,16 @@
  *
  * What may be lent
  * ----------------
- * Pointers must not be null and must reach as many bytes as their length says;
- * sheet and state must not overlap. Beyond that every byte and every length is
- * allowed: what is wrong with them is answered by a refusal. A refused call
- * leaves every lent byte as it was.
+ * A pointer must reach as many bytes as its length says. A length of 0 lends
+ * nothing, and the pointer may then be null: so an empty journal may be lent as
+ * NULL, 0. What a call may write (state, line) must not overlap with anything
+ * else that it is lent. Beyond that every byte and every length is allowed: what
+ * is wrong with them is answered by a refusal. A refused call leaves every lent
+ * byte as it was.
  *
  * Nothing is kept between the calls: all of a campaign stands in its sheet and
  * its state. Calls on different states may run at the same time; while a call
- * runs, nobody else may write its sheet or touch its state.
+ * runs, nobody else may write its sheet or journal or touch its state or line.
  *
  *
  * The plan sheet

@@ -9,7 +9,7 @@
 struct journal {
     const char *path; /* null: no file */
     int file;
-    uint8_t *bytes; /* never null while open, so that it can be lent */
+    uint8_t *bytes; /* the lines, then the tail */
     size_t length;  /* of the whole lines */
     size_t tail;    /* bytes after them, 0 to 5 */
 };

@@ -195,6 +195,28 @@ static void restarts_that_do_not(void)
     restart(twin, "Q   2\n", 64, 0, CAMPAIGN_STRANDING, 259, NULL);
 }
 
+/* A length of 0 lends nothing, and then the pointer may be null: each lent part of each call in turn. */
+static void nulls(void)
+{
+    const uint8_t *sheet = (const uint8_t *) tanker;
+    size_t length = strlen(tanker);
+    uint8_t state[CAMPAIGN_STATE_LENGTH];
+    uint8_t first[CAMPAIGN_STATE_LENGTH] = {1};
+    memset(state, 0xEE, sizeof state);
+    expect("null sheet: check", campaign_check(NULL, 0), 0, CAMPAIGN_FORM, 1);
+    expect("null sheet: start", campaign_start(NULL, 0, state, sizeof state), 0, CAMPAIGN_FORM, 1);
+    expect("null sheet: next order", campaign_next_order(NULL, 0, state, sizeof state), 0, CAMPAIGN_FORM, 1);
+    expect("null sheet: reply", campaign_reply(NULL, 0, state, sizeof state, CAMPAIGN_CONFIRMED, 1), 0, CAMPAIGN_FORM, 1);
+    expect("null sheet: restart", campaign_restart(NULL, 0, NULL, 0, state, sizeof state), 0, CAMPAIGN_FORM, 1);
+    expect("null state: start", campaign_start(sheet, length, NULL, 0), 0, CAMPAIGN_UNSOUND, 0);
+    expect("null state: next order", campaign_next_order(sheet, length, NULL, 0), 0, CAMPAIGN_UNSOUND, 0);
+    expect("null state: reply", campaign_reply(sheet, length, NULL, 0, CAMPAIGN_CONFIRMED, 1), 0, CAMPAIGN_UNSOUND, 0);
+    expect("null state: restart", campaign_restart(sheet, length, NULL, 0, NULL, 0), 0, CAMPAIGN_UNSOUND, 0);
+    expect("null line", campaign_journal_line(CAMPAIGN_REQUEST_LETTER, 1, NULL, 0), 0, CAMPAIGN_SHORT_BUFFER, 0);
+    expect("null journal", campaign_restart(sheet, length, NULL, 0, state, sizeof state), CAMPAIGN_ACCEPTED, 0, 0);
+    expect_bytes("null journal", state, first, sizeof state);
+}
+
 int main(void)
 {
     checks();
@@ -202,5 +224,6 @@ int main(void)
     journal_lines();
     restarts_that_pass();
     restarts_that_do_not();
+    nulls();
     return faults == 0 ? 0 : 1;
 }

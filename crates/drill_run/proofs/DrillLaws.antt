@@ -11,6 +11,7 @@ use Rattle.guarantee.specs.Machine.{Asked, nextOrder, replied}
 use Rattle.calls.specs.Calls.{sheetPasses, startCall, startLeaves, askedCall, askedLeaves}
 use Rattle.whole_campaign.specs.Lists.{leftOn}
 use Rattle.whole_campaign.specs.Whole.{WholeCampaign}
+use Rattle.whole_campaign.proofs.Lists.{left-append}
 use Rattle.whole_campaign.proofs.Whole.{whole-campaign}
 use Rattle.decimal.specs.Decimal.{columns, columnsTo, sameBytes}
 use Rattle.event_lines.specs.Line.{lineText, isLine, lineOf}
@@ -80,14 +81,10 @@ from-start s lent b₀ st₀ st e f d = rw (← e, ← f) d
 
 -- ---- a list of calls
 
-left-last : (s st : List ℕ) (qs : List Asked) (q : Asked) → leftOn s st (qs ++ (q ∷ [])) ≡ askedLeaves s (leftOn s st qs) q
-unfolding leftOn
-left-last s st [] q = refl
-left-last s st (p ∷ qs) q = left-last s (askedLeaves s st p) qs q
-
 one-more : (s st₀ st st′ : List ℕ) (q : Asked) → (qs : List Asked) × (st ≡ leftOn s st₀ qs) → st′ ≡ askedLeaves s st q
     → (qs : List Asked) × (st′ ≡ leftOn s st₀ qs)
-one-more s st₀ st st′ q (qs, e) f = (qs ++ (q ∷ []), f ∙ rw e (sym (left-last s st₀ qs q)))
+unfolding leftOn
+one-more s st₀ st st′ q (qs, e) f = (qs ++ (q ∷ []), f ∙ rw e (sym (left-append s st₀ qs (q ∷ []))))
 
 -- the drill's state is what a list of calls leaves of the one that it began with
 pub drilled-calls : (s : List ℕ) (b₀ : ℕ) (st₀ : List ℕ) (b : ℕ) (st : List ℕ) → Drilled s b₀ st₀ b st → (qs : List Asked) × (st ≡ leftOn s st₀ qs)

@@ -1,18 +1,18 @@
 -- What restart answers, and what it leaves, at each of its exits.
 -- Assumes nothing.
 use mathlib.Core.Path.{_≡_, ap, _∙_}
-use mathlib.Core.Bool.{true, false, not}
+use mathlib.Core.Bool.{true, false, not, _&&_}
 use mathlib.Core.List.{List}
 use Prim.Native.Nat.{ℕ, _<_}
-use lib.Dec.{leb}
+use lib.Dec.{eqb, leb}
 use lib.ListN.{length}
 use native.Mathlib.Omega.{arith}
 use borrow.Author.Tests.{eq-eqb, ne-eqb, leb-true}
-use Rattle.bounded.proofs.Bools.{by-cond}
+use Rattle.bounded.proofs.Bools.{by-cond, and-no-r}
 use Rattle.network.specs.declared.Network.{Network}
 use Rattle.run.specs.Bytes.{bytesOf}
 use Rattle.guarantee.specs.Answers.{pack, unsound}
-use Rattle.calls.specs.Calls.{networkIn, checkedOf}
+use Rattle.calls.specs.Calls.{networkIn, sheetPasses, checkedOf}
 use Rattle.calls.specs.declared.Checked.{Checked}
 use Rattle.calls.proofs.Exits.{fails, holds, bits-is, network-is}
 use Rattle.journal_calls.specs.Restart.{replay, linePlace, replayBits, restartCall, restarts, restartLeaves}
@@ -39,7 +39,10 @@ module _ (s j bs : List ℕ) (c : Checked) (e : c ≡ checkedOf s) where
 
       pub wrong : (t .wrong ≡ 0 → ⊥) → (p : ℕ) → p ≡ linePlace (t .wrong) → (x : ℕ) → x ≡ pack 0 12 p → (x ≡ restartCall s j bs) × (bs ≡ restartLeaves s j bs)
       unfolding restartCall restarts restartLeaves replayBits
-      wrong z p ep x q = let f = holds s c e n in (rw (f, eq-eqb (length bs) 65 h, ← replayed, ne-eqb (t .wrong) 0 z, ← ep) q, rw (f, eq-eqb (length bs) 65 h, ← replayed, ne-eqb (t .wrong) 0 z))
+      wrong z p ep x q =
+          let y : eqb (replay (networkIn s) j .wrong) 0 ≡ false = rw (← replayed) (ne-eqb (t .wrong) 0 z) in
+          let off : restarts s j bs ≡ false = and-no-r (sheetPasses s) (eqb (length bs) 65 && eqb (replay (networkIn s) j .wrong) 0) (and-no-r (eqb (length bs) 65) _ y) in
+          (rw (holds s c e n, eq-eqb (length bs) 65 h, y, ← replayed, ← ep) q, rw off)
 
       pub right : t .wrong ≡ 0 → (x : ℕ) → x ≡ pack 6 0 0 → (after : List ℕ) → after ≡ bytesOf (t .run) → (x ≡ restartCall s j bs) × (after ≡ restartLeaves s j bs)
       unfolding restartCall restarts restartLeaves replayBits

@@ -3,7 +3,7 @@
 use mathlib.Core.Path.{_≡_, refl, sym, ap, _∙_}
 use mathlib.Core.Logic.{inl, inr}
 use mathlib.Core.Bool.{true}
-use mathlib.Core.List.{List, _++_}
+use mathlib.Core.List.{List, [], _∷_, _++_, append-assoc}
 use Prim.Native.Nat.{ℕ, zero, suc, _+_, _*_, _/_, _≤_}
 use native.Mathlib.Omega.{arith}
 use lib.Dec.{eqb}
@@ -19,9 +19,9 @@ use Rattle.guarantee.specs.Counted.{ordered, answered, tally}
 use Rattle.guarantee.proofs.Start.{all-free, start-sound}
 use Rattle.guarantee.proofs.Moved.{awaits}
 use Rattle.guarantee.proofs.Whole.{travel}
-use Rattle.calls.specs.Calls.{networkIn, sheetPasses, checkCall, startLeaves}
+use Rattle.calls.specs.Calls.{networkIn, sheetPasses, checkCall, startLeaves, askedCall, askedLeaves}
 use Rattle.calls.proofs.FirstAnswer.{refused-low}
-use Rattle.journal_calls.specs.Journal.{journalOf, callsOf}
+use Rattle.journal_calls.specs.Journal.{entryOf, journalOf, callsOf}
 use Rattle.journal_calls.specs.Restart.{replay, linePlace, replayBits, restartCall, restarts, restartLeaves}
 use Rattle.journal_calls.specs.declared.Replayed.{Replayed}
 use Rattle.journal_calls.proofs.Exits.{place-small}
@@ -65,6 +65,14 @@ module _ (s journal lent : List ℕ) (a : Accepted s journal lent) where
   pub leaves-is : restartLeaves s journal lent ≡ bytesOf (replay (networkIn s) journal .run)
   unfolding restartLeaves restarts
   leaves-is = rw (a .passes, eq-eqb (length lent) 65 (a .size), a .right)
+
+-- two lists of calls as one have the journals of both
+journal-append : (s bs : List ℕ) (ps qs : List Asked) → journalOn s bs (ps ++ qs) ≡ journalOn s bs ps ++ journalOn s (leftOn s bs ps) qs
+unfolding journalOn journalOf answersOn leftOn
+journal-append s bs [] qs = refl
+journal-append s bs (p ∷ ps) qs =
+    ap (λ (t : List ℕ). entryOf p (askedCall s bs p) ++ t) (journal-append s (askedLeaves s bs p) ps qs)
+    ∙ sym (append-assoc (entryOf p (askedCall s bs p)) (journalOn s (askedLeaves s bs p) ps) (journalOn s (leftOn s (askedLeaves s bs p) ps) qs))
 
 -- a reply is awaited where the code says that an order is open
 open-is : (c : ℕ) → c ≤ 4 → awaits c ≡ one (isOpen c)
@@ -165,6 +173,7 @@ module _ (s : List ℕ) (e : sheetPasses s ≡ true) where
         left = l;
         answers = answers-append s (bytesOf start) (callsOf journal) qs ∙ rw l;
         states = states-append s (bytesOf start) (callsOf journal) qs ∙ rw l;
+        stored = rw l (ap (λ (t : List ℕ). t ++ journalOn s (leftOn s (bytesOf start) (callsOf journal)) qs) (exact-start journal lent a) ∙ sym (journal-append s (bytesOf start) (callsOf journal) qs));
         whole = from-start s e (callsOf journal ++ qs);
         unanswered = λ b. rw l (open-after (callsOf journal) b);
       }

@@ -57,6 +57,8 @@ pub record AcrossTheStop (s begun lent journal : List ℕ) (qs : List Asked) : T
   -- so the answers and the states after it are the second part of those of both lists as one
   pub answers : answersOn s begun (callsOf journal ++ qs) ≡ answersOn s begun (callsOf journal) ++ answersOn s (restartLeaves s journal lent) qs
   pub states : statesOn s begun (callsOf journal ++ qs) ≡ statesOn s begun (callsOf journal) ++ statesOn s (restartLeaves s journal lent) qs
+  -- the journal's whole lines, and after them the lines of the calls after the restart, are the journal of both: the next stop is as the first
+  pub stored : wholeLines journal ++ journalOn s (restartLeaves s journal lent) qs ≡ journalOn s begun (callsOf journal ++ qs)
   -- and both as one are a whole campaign, with all that is claimed of one
   pub whole : WholeCampaign s begun (callsOf journal ++ qs)
   -- the orders to send again: of each booking whose byte says so one more request or return was taken than replies accepted, of no other
