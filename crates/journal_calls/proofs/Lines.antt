@@ -11,24 +11,26 @@ use lib.ListN.{length, getD, set}
 use lib.Seq.{sets, getD-set-same}
 use borrow.Author.Tests.{eq-eqb, eqb-true, ne-eqb, le-leb, lt-leb, not-true, not-false}
 use Rattle.bounded.proofs.Bools.{which, clash, and-r, same-test, by-cond}
-use Rattle.event_lines.specs.Line.{Q, U, lineText}
-use Rattle.event_lines.specs.declared.Line.{Line}
-use Rattle.event_lines.specs.declared.Line.the-variants.{Given, Misformed}
-use Rattle.event_lines.proofs.LineLaws.{line-length}
 use Rattle.network.specs.declared.Network.{Network}
 use Rattle.standing.specs.Standing.{free, requested, held, lost, returning, standingOf, moved}
 use Rattle.standing.specs.Ways.{firstLive}
 use Rattle.standing.specs.declared.Standing.{Standing}
 use Rattle.standing.proofs.Codes.{moved-is}
 use Rattle.run.specs.State.{standing, here, put, turn}
-use Rattle.run.specs.Orders.{next}
+use Rattle.run.specs.Orders.{unchanged, next}
 use Rattle.run.specs.Replies.{toSwitch, settle}
 use Rattle.run.specs.declared.Run.{Run}
+use Rattle.run.specs.declared.Order.{Order}
+use Rattle.run.specs.declared.Order.the-variants.{Request, Return, Wait, Flown, Off}
 use Rattle.run.specs.declared.Ordered.{Ordered}
 use Rattle.run.specs.declared.Replied.{Replied}
 use Rattle.run.proofs.Cases.{FirstLive, at, nowhere, first-live, NextCase, blocked, gives, busy, asks, pends, over, flies, next-case, return-facts, request-facts, ReplyCase, misfit, confirmed, refused, again, returned, kept, reply-case}
 use Rattle.guarantee.specs.Answers.{pack, place9}
 use Rattle.guarantee.specs.Machine.{replyTo}
+use Rattle.event_lines.specs.Line.{Q, U, lineText}
+use Rattle.event_lines.specs.declared.Line.{Line}
+use Rattle.event_lines.specs.declared.Line.the-variants.{Given, Misformed}
+use Rattle.event_lines.proofs.LineLaws.{line-length}
 use Rattle.journal_calls.specs.Journal.{isOrder, hasLine, journalLineCall, journalLineLeaves}
 use Rattle.journal_calls.specs.Restart.{due, orderTaken, lineTaken, stepped}
 use Rattle.journal_calls.specs.declared.Stepped.{Stepped}
@@ -64,6 +66,39 @@ module _ (l b : ℕ) (d : List ℕ) (t : Bool) (e : t ≡ hasLine l b) where
         → (x ≡ journalLineCall l b (length d)) × (f ≡ journalLineLeaves l b d)
     unfolding journalLineCall journalLineLeaves
     written h m k x p f q = (rw (has, le-leb 6 (length d) h) (rw (k ∙ line-length l b) at p), rw (has, le-leb 6 (length d) h) q)
+
+-- ---- what next order gives
+
+-- nothing to send
+pub data Silent (r : Run) : Order → Type 0 where
+  waits : Silent r Wait
+  is-off : Silent r Off
+  is-flown : Silent r (Flown (r .way))
+
+-- an order for a booking of the plan, or nothing to send, and then nothing changes
+pub data Sent (g : Network) (r : Run) : Ordered → Type 0 where
+  requests : (x : ℕ) → x < g .n → Sent g r (record { order = Request x; run = put r x requested })
+  gives-back : (x : ℕ) → x < g .n → Sent g r (record { order = Return x; run = put r x returning })
+  nothing : (o : Order) → Silent r o → Sent g r (unchanged o r)
+
+pub sent : (g : Network) (r : Run) → Sent g r (next g r)
+sent g r = by-case (next-case g r)
+  where
+    by-case : {t : Ordered} → NextCase g r t → Sent g r t
+    by-case (blocked e) = nothing Wait waits
+    by-case (gives x u e) = gives-back x (return-facts g r x e .booking)
+    by-case (busy e) = nothing Wait waits
+    by-case (asks x i e) = requests x (request-facts g r x e .booking)
+    by-case (pends e) = nothing Wait waits
+    by-case (over d e) = nothing Off is-off
+    by-case (flies d e) = nothing (Flown (r .way)) is-flown
+
+-- no line is due where nothing is to be sent
+pub silent-due : {r : Run} {o : Order} (l b : ℕ) → Silent r o → due l b o ≡ true → ⊥
+unfolding due
+silent-due l b waits d = clash true refl (sym d)
+silent-due l b is-off d = clash true refl (sym d)
+silent-due l b is-flown d = clash true refl (sym d)
 
 -- ---- a line taken
 
@@ -103,15 +138,11 @@ module _ (g : Network) (few : g .n ≤ 64) (r : Run) (size : length (r .code) �
   from-index : {t : Run} (b x : ℕ) → b ≡ suc x → Moves g r t x → (1 ≤ b) × Moves g r t (b - 1)
   from-index b x e m = let z : b - 1 ≡ x = omega arith in (omega arith, rw z m)
 
-  order-moves : (l b : ℕ) {t : Ordered} → NextCase g r t → due l b (t .order) ≡ true → (1 ≤ b) × Moves g r (t .run) (b - 1)
+  order-moves : (l b : ℕ) {t : Ordered} → Sent g r t → due l b (t .order) ≡ true → (1 ≤ b) × Moves g r (t .run) (b - 1)
   unfolding due
-  order-moves l b (gives x u e) d = from-index b x (eqb-true b (suc x) (and-r (eqb l U) _ d)) (put-moves x returning (return-facts g r x e .booking))
-  order-moves l b (asks x i e) d = from-index b x (eqb-true b (suc x) (and-r (eqb l Q) _ d)) (put-moves x requested (request-facts g r x e .booking))
-  order-moves l b (blocked e) d = clash true refl (sym d)
-  order-moves l b (busy e) d = clash true refl (sym d)
-  order-moves l b (pends e) d = clash true refl (sym d)
-  order-moves l b (over k e) d = clash true refl (sym d)
-  order-moves l b (flies k e) d = clash true refl (sym d)
+  order-moves l b (requests x h) d = from-index b x (eqb-true b (suc x) (and-r (eqb l Q) _ d)) (put-moves x requested h)
+  order-moves l b (gives-back x h) d = from-index b x (eqb-true b (suc x) (and-r (eqb l U) _ d)) (put-moves x returning h)
+  order-moves l b (nothing o q) d = absurd (silent-due l b q d)
 
   reply-moves : (l x : ℕ) {t : Replied} → ReplyCase g r l x t → t .taken ≡ true → Moves g r (t .run) x
   reply-moves l x misfit d = clash true refl (sym d)
@@ -129,7 +160,7 @@ module _ (g : Network) (few : g .n ≤ 64) (r : Run) (size : length (r .code) �
   line-moves : (l b : ℕ) → lineTaken g r (Given l b) .taken ≡ true → (1 ≤ b) × Moves g r (lineTaken g r (Given l b) .run) (b - 1)
   unfolding lineTaken orderTaken
   line-moves l b d = elim (which (isOrder l)) [
-    | inl o ↦ rw o (order-moves l b (next-case g r) (rw o at d))
+    | inl o ↦ rw o (order-moves l b (sent g r) (rw o at d))
     | inr o ↦ rw o (numbered-moves l b (rw o at d))
   ]
 
@@ -186,14 +217,10 @@ module _ (g : Network) (few : g .a ≤ 16) where
       (λ e. live-few r (first-live g (standing g r))) (λ e. h)
 
   module _ (r : Run) (h : r .way ≤ 16) where
-    order-few : {t : Ordered} → NextCase g r t → t .run .way ≤ 16
-    order-few (blocked e) = h
-    order-few (gives x u e) = h
-    order-few (busy e) = h
-    order-few (asks x i e) = h
-    order-few (pends e) = h
-    order-few (over d e) = h
-    order-few (flies d e) = h
+    order-few : {t : Ordered} → Sent g r t → t .run .way ≤ 16
+    order-few (requests x e) = h
+    order-few (gives-back x e) = h
+    order-few (nothing o q) = h
 
     reply-few : (l b : ℕ) {t : Replied} → ReplyCase g r l b t → t .run .way ≤ 16
     reply-few l b misfit = h
@@ -211,5 +238,5 @@ module _ (g : Network) (few : g .a ≤ 16) where
     -- a line leaves a way within the limit
     pub line-few : (line : Line) → lineTaken g r line .run .way ≤ 16
     unfolding lineTaken orderTaken
-    line-few (Given l b) = by-cond (λ (t : Replied). t .run .way ≤ 16) {t = isOrder l} {a = orderTaken g r l b} {b = replyTo g r l b} (λ e. order-few (next-case g r)) (λ e. numbered-few l b)
+    line-few (Given l b) = by-cond (λ (t : Replied). t .run .way ≤ 16) {t = isOrder l} {a = orderTaken g r l b} {b = replyTo g r l b} (λ e. order-few (sent g r)) (λ e. numbered-few l b)
     line-few Misformed = h

@@ -9,13 +9,13 @@ use lib.Dec.{leb}
 use lib.ListN.{length, take, drop}
 use lib.Seq.{drop-drop}
 use borrow.Author.Tests.{leb-true, leb-false, not-true, not-false}
+use Rattle.network.specs.declared.Network.{Network}
+use Rattle.run.specs.declared.Run.{Run}
 use Rattle.event_lines.specs.Line.{lineOf}
 use Rattle.event_lines.specs.declared.Line.{Line}
 use Rattle.journal.specs.Reading.{turnAt}
 use Rattle.journal.specs.declared.Entry.the-variants.{Whole, End}
 use Rattle.journal.specs.declared.Turn.{Turn}
-use Rattle.network.specs.declared.Network.{Network}
-use Rattle.run.specs.declared.Run.{Run}
 use Rattle.journal_calls.specs.Restart.{lineTaken, stepped, replayFrom}
 use Rattle.journal_calls.specs.declared.Stepped.{Stepped}
 use Rattle.journal_calls.specs.declared.Replayed.{Replayed}

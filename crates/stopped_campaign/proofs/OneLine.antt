@@ -1,24 +1,23 @@
 -- One call and its line: a call that has a line is taken when the line is replayed, a call that has none changes nothing, and a line that is
 -- taken is the line of its call.
 -- Assumes nothing.
-use mathlib.Core.Path.{_≡_, refl, sym}
+use mathlib.Core.Path.{_≡_, refl}
 use mathlib.Core.Logic.{inl, inr}
 use mathlib.Core.Bool.{true, false}
 use mathlib.Core.List.{[]}
 use Prim.Native.Nat.{ℕ, zero, suc, _≤_, _<_}
 use native.Mathlib.Omega.{arith}
 use lib.Dec.{eqb}
-use borrow.Author.Tests.{eqb-true, eq-eqb, le-leb}
+use borrow.Author.Tests.{eqb-true, eq-eqb, ne-eqb, le-leb}
 use Rattle.bounded.proofs.Bools.{which, clash, _&_, and-l, and-r}
-use Rattle.event_lines.specs.Line.{Q, U, lineText}
-use Rattle.event_lines.specs.declared.Line.the-variants.{Given}
 use Rattle.network.specs.declared.Network.{Network}
 use Rattle.run.specs.Orders.{next}
 use Rattle.run.specs.Replies.{Y, N, G, K}
 use Rattle.run.specs.declared.Run.{Run}
+use Rattle.run.specs.declared.Order.{Order}
 use Rattle.run.specs.declared.Ordered.{Ordered}
 use Rattle.run.specs.declared.Replied.{Replied}
-use Rattle.run.proofs.Cases.{NextCase, blocked, gives, busy, asks, pends, over, flies, next-case, return-facts, request-facts, ReplyCase, misfit, confirmed, refused, again, returned, kept, reply-case}
+use Rattle.run.proofs.Cases.{ReplyCase, misfit, confirmed, refused, again, returned, kept, reply-case}
 use Rattle.guarantee.specs.Answers.{pack, kindOf, placeOf, orderBits, place9, replyBits}
 use Rattle.guarantee.specs.Machine.{Asked, nextOrder, replied, replyTo, answer, after}
 use Rattle.guarantee.specs.Counted.{accepts}
@@ -26,6 +25,9 @@ use Rattle.guarantee.proofs.Moved.{kind-pack, place-pack}
 use Rattle.guarantee.proofs.Numbers.{small-9, taken-small}
 use Rattle.journal_calls.specs.Journal.{entryOf, isOrder, callOn, isLetter, hasLine}
 use Rattle.journal_calls.specs.Restart.{due, orderTaken, lineTaken}
+use Rattle.journal_calls.proofs.Lines.{Silent, waits, is-off, is-flown, Sent, requests, gives-back, nothing, sent, silent-due}
+use Rattle.event_lines.specs.Line.{Q, U, lineText}
+use Rattle.event_lines.specs.declared.Line.the-variants.{Given}
 
 -- ---- lines by the kind of the answer
 
@@ -45,6 +47,17 @@ misfit-line : (l b : ℕ) → entryOf (replied l b) (pack 0 9 (place9 b)) ≡ []
 unfolding entryOf accepts
 misfit-line l b = rw (kind-pack 0 9 (place9 b) (omega arith) (omega (arith, small-9 b)))
 
+-- where nothing is to be sent there is no line
+silent-kind : {r : Run} {o : Order} → Silent r o → r .way < 65536 → 3 ≤ kindOf (orderBits o)
+unfolding orderBits kindOf pack
+silent-kind waits w = omega arith
+silent-kind is-off w = omega arith
+silent-kind is-flown w = omega arith
+
+silent-line : {r : Run} {o : Order} → Silent r o → r .way < 65536 → entryOf nextOrder (orderBits o) ≡ []
+unfolding entryOf
+silent-line {r} {o} q w = let k = silent-kind q w in rw (ne-eqb (kindOf (orderBits o)) 1 (λ e. omega arith), ne-eqb (kindOf (orderBits o)) 2 (λ e. omega arith))
+
 -- ---- from a call to its line
 
 -- a call on a state: it has a line, which is taken and leads where the call did; or it has none, and changes nothing
@@ -63,19 +76,11 @@ module _ (g : Network) (few : g .n ≤ 64) (r : Run) where
   unfolding hasLine
   numbered l x e h = e & (le-leb 1 (suc x) (omega arith) & le-leb (suc x) 64 (omega arith))
 
-  order-line : {t : Ordered} → NextCase g r t → r .way < 65536 → OrderLine t
-  unfolding orderBits due isOrder isLetter entryOf kindOf pack
-  order-line (gives x u e) w =
-      let h : x < 64 = omega (arith, return-facts g r x e .booking) in
-      of-order U (suc x) refl (numbered U x refl h) (omega arith) (return-line (suc x) (omega arith)) (eq-eqb (suc x) (suc x) refl)
-  order-line (asks x i e) w =
-      let h : x < 64 = omega (arith, request-facts g r x e .booking) in
-      of-order Q (suc x) refl (numbered Q x refl h) (omega arith) (request-line (suc x) (omega arith)) (eq-eqb (suc x) (suc x) refl)
-  order-line (blocked e) w = no-order refl refl
-  order-line (busy e) w = no-order refl refl
-  order-line (pends e) w = no-order refl refl
-  order-line (over d e) w = no-order refl refl
-  order-line (flies d e) w = no-order (rw (kind-pack 4 0 (r .way) (omega arith) w)) refl
+  order-line : {t : Ordered} → Sent g r t → r .way < 65536 → OrderLine t
+  unfolding orderBits due isOrder isLetter
+  order-line (requests x h) w = of-order Q (suc x) refl (numbered Q x refl (omega arith)) (omega arith) (request-line (suc x) (omega arith)) (eq-eqb (suc x) (suc x) refl)
+  order-line (gives-back x h) w = of-order U (suc x) refl (numbered U x refl (omega arith)) (omega arith) (return-line (suc x) (omega arith)) (eq-eqb (suc x) (suc x) refl)
+  order-line (nothing o q) w = no-order (silent-line q w) refl
 
   -- a reply's line
   data ReplyLine (l n : ℕ) (t : Replied) : Type 0 where
@@ -110,30 +115,22 @@ module _ (g : Network) (few : g .n ≤ 64) (r : Run) where
   by-reply l n (no-reply t s) = unlined (rw t (misfit-line l n)) s
 
   pub line-case : r .way < 65536 → (q : Asked) → LineCase g r q
-  line-case w nextOrder = by-order (order-line (next-case g r) w)
+  line-case w nextOrder = by-order (order-line (sent g r) w)
   line-case w (replied l n) = by-reply l n (numbered-line l n)
 
   -- ---- the line of an order or an accepted reply can be written
 
-  order-has : {t : Ordered} → NextCase g r t → r .way < 65536
+  order-has : {t : Ordered} → Sent g r t → r .way < 65536
       → (kindOf (orderBits (t .order)) ≡ 1 → hasLine Q (placeOf (orderBits (t .order))) ≡ true) × (kindOf (orderBits (t .order)) ≡ 2 → hasLine U (placeOf (orderBits (t .order))) ≡ true)
   unfolding orderBits isLetter isOrder kindOf pack
-  order-has (gives x u e) w =
-      let h : x < 64 = omega (arith, return-facts g r x e .booking) in
-      ((λ k. absurd (omega arith)), λ k. rw (place-pack 2 0 (suc x) (omega arith)) (numbered U x refl h))
-  order-has (asks x i e) w =
-      let h : x < 64 = omega (arith, request-facts g r x e .booking) in
-      ((λ k. rw (place-pack 1 0 (suc x) (omega arith)) (numbered Q x refl h)), λ k. absurd (omega arith))
-  order-has (blocked e) w = ((λ k. absurd (omega arith)), λ k. absurd (omega arith))
-  order-has (busy e) w = ((λ k. absurd (omega arith)), λ k. absurd (omega arith))
-  order-has (pends e) w = ((λ k. absurd (omega arith)), λ k. absurd (omega arith))
-  order-has (over d e) w = ((λ k. absurd (omega arith)), λ k. absurd (omega arith))
-  order-has (flies d e) w = ((λ k. absurd (omega arith)), λ k. absurd (omega arith))
+  order-has (requests x h) w = ((λ k. rw (place-pack 1 0 (suc x) (omega arith)) (numbered Q x refl (omega arith))), λ k. absurd (omega arith))
+  order-has (gives-back x h) w = ((λ k. absurd (omega arith)), λ k. rw (place-pack 2 0 (suc x) (omega arith)) (numbered U x refl (omega arith)))
+  order-has (nothing o q) w = ((λ k. absurd (omega (arith, silent-kind q w))), λ k. absurd (omega (arith, silent-kind q w)))
 
   pub next-has : r .way < 65536 → (kindOf (answer g r nextOrder) ≡ 1 → hasLine Q (placeOf (answer g r nextOrder)) ≡ true)
       × (kindOf (answer g r nextOrder) ≡ 2 → hasLine U (placeOf (answer g r nextOrder)) ≡ true)
   unfolding answer
-  next-has w = order-has (next-case g r) w
+  next-has w = order-has (sent g r) w
 
   pub reply-has : (l n : ℕ) → accepts (answer g r (replied l n)) ≡ true → hasLine l n ≡ true
   unfolding answer replyBits accepts
@@ -144,27 +141,23 @@ module _ (g : Network) (few : g .n ≤ 64) (r : Run) where
 
   -- ---- from a line to its call
 
-  due-line : (l b : ℕ) {t : Ordered} → NextCase g r t → due l b (t .order) ≡ true → entryOf nextOrder (orderBits (t .order)) ≡ lineText l b
+  due-line : (l b : ℕ) {t : Ordered} → Sent g r t → due l b (t .order) ≡ true → entryOf nextOrder (orderBits (t .order)) ≡ lineText l b
   unfolding due orderBits
-  due-line l b (gives x u e) d =
-      let z : l ≡ U = eqb-true l U (and-l (eqb l U) _ d) in
-      let y : b ≡ suc x = eqb-true b (suc x) (and-r (eqb l U) _ d) in
-      rw (z, y) (return-line (suc x) (omega (arith, return-facts g r x e .booking)))
-  due-line l b (asks x i e) d =
+  due-line l b (requests x h) d =
       let z : l ≡ Q = eqb-true l Q (and-l (eqb l Q) _ d) in
       let y : b ≡ suc x = eqb-true b (suc x) (and-r (eqb l Q) _ d) in
-      rw (z, y) (request-line (suc x) (omega (arith, request-facts g r x e .booking)))
-  due-line l b (blocked e) d = clash true refl (sym d)
-  due-line l b (busy e) d = clash true refl (sym d)
-  due-line l b (pends e) d = clash true refl (sym d)
-  due-line l b (over k e) d = clash true refl (sym d)
-  due-line l b (flies k e) d = clash true refl (sym d)
+      rw (z, y) (request-line (suc x) (omega arith))
+  due-line l b (gives-back x h) d =
+      let z : l ≡ U = eqb-true l U (and-l (eqb l U) _ d) in
+      let y : b ≡ suc x = eqb-true b (suc x) (and-r (eqb l U) _ d) in
+      rw (z, y) (return-line (suc x) (omega arith))
+  due-line l b (nothing o q) d = absurd (silent-due l b q d)
 
   -- a line that is taken is the line of its call, and leads where the call does
   pub taken-line : (l b : ℕ) → lineTaken g r (Given l b) .taken ≡ true
       → (entryOf (callOn (Given l b)) (answer g r (callOn (Given l b))) ≡ lineText l b) × (lineTaken g r (Given l b) .run ≡ after g r (callOn (Given l b)))
   unfolding lineTaken orderTaken callOn answer after replyBits
   taken-line l b t = elim (which (isOrder l)) [
-    | inl o ↦ (rw o (due-line l b (next-case g r) (rw o at t)), rw o)
+    | inl o ↦ (rw o (due-line l b (sent g r) (rw o at t)), rw o)
     | inr o ↦ (let k : replyTo g r l b .taken ≡ true = rw o at t in (rw (o, k) (reply-line l b (taken-small g r l b (replyTo g r l b) few refl k)), rw o))
   ]

@@ -10,10 +10,6 @@ use native.Mathlib.Omega.{arith}
 use lib.ListN.{length, take, drop, length-append}
 use lib.Seq.{take-at, drop-at, take-append-add, take-add, take-nil, length-take-le}
 use Rattle.bounded.proofs.Bools.{which, split?}
-use Rattle.event_lines.specs.Line.{lineText, lineOf}
-use Rattle.event_lines.specs.declared.Line.{Line}
-use Rattle.event_lines.specs.declared.Line.the-variants.{Given, Misformed}
-use Rattle.event_lines.proofs.LineLaws.{line-length, line-read, read-text}
 use Rattle.network.specs.declared.Network.{Network}
 use Rattle.run.specs.declared.Run.{Run}
 use Rattle.guarantee.specs.Machine.{Asked, answer, after, machineAnswers, final}
@@ -21,6 +17,10 @@ use Rattle.journal_calls.specs.Journal.{entryOf, journalOf, callOn, callsFrom}
 use Rattle.journal_calls.specs.Restart.{lineTaken, replayFrom}
 use Rattle.journal_calls.specs.declared.Replayed.{Replayed}
 use Rattle.journal_calls.proofs.Lines.{line-few}
+use Rattle.event_lines.specs.Line.{lineText, lineOf}
+use Rattle.event_lines.specs.declared.Line.{Line}
+use Rattle.event_lines.specs.declared.Line.the-variants.{Given, Misformed}
+use Rattle.event_lines.proofs.LineLaws.{line-length, line-read, read-text}
 use Rattle.stopped_campaign.specs.Stopped.{wholeLines}
 use Rattle.stopped_campaign.proofs.OneLine.{lined, unlined, line-case, taken-line}
 

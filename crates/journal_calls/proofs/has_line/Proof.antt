@@ -2,8 +2,8 @@
 -- Assumes nothing.
 use mathlib.Core.Path.{sym, _∙_}
 use borrow.Author.Tests.{not-true, not-false, lt-leb, le-leb}
-use Rattle.journal_calls.specs.Journal.{hasLine}
 use borrow.Author.Needs.{needs}
+use Rattle.journal_calls.specs.Journal.{hasLine}
 use Rattle.journal_calls.proofs.has_line.Statement.{statement}
 use Rattle.journal_calls.proofs.has_line.Tie as tie
 

@@ -1,10 +1,10 @@
 -- `journal_calls::is_letter` meets its contract.
 -- Assumes nothing.
-use Rattle.journal_calls.specs.Journal.{isOrder, isLetter}
-use Rattle.bounded.proofs.Bools.{or-l}
 use mathlib.Core.Path.{sym, _∙_}
 use borrow.Author.Tests.{ne-eqb}
 use borrow.Author.Needs.{needs}
+use Rattle.bounded.proofs.Bools.{or-l}
+use Rattle.journal_calls.specs.Journal.{isOrder, isLetter}
 use Rattle.journal_calls.proofs.is_letter.Statement.{statement}
 use Rattle.journal_calls.proofs.is_letter.Tie as tie
 

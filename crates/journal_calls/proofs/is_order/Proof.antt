@@ -1,7 +1,7 @@
 -- `journal_calls::is_order` meets its contract.
 -- Assumes nothing.
-use Rattle.journal_calls.specs.Journal.{isOrder}
 use borrow.Author.Tests.{eq-eqb, ne-eqb}
+use Rattle.journal_calls.specs.Journal.{isOrder}
 use Rattle.journal_calls.proofs.is_order.Statement.{statement}
 use Rattle.journal_calls.proofs.is_order.Tie as tie
 

@@ -1,12 +1,12 @@
 -- `journal_calls::journal_line` meets its contract.
 -- Assumes nothing.
-use Rattle.guarantee.specs.Answers.{pack}
 use mathlib.Core.Path.{ap, _∙_}
-use Rattle.journal_calls.proofs.Lines.{no-line, no-room, written}
-use Rattle.event_lines.proofs.LineLaws.{line-length}
-use Rattle.guarantee.proofs.Numbers.{small-9}
 use native.Mathlib.Omega.{arith}
 use borrow.Author.Needs.{needs}
+use Rattle.guarantee.specs.Answers.{pack}
+use Rattle.guarantee.proofs.Numbers.{small-9}
+use Rattle.event_lines.proofs.LineLaws.{line-length}
+use Rattle.journal_calls.proofs.Lines.{no-line, no-room, written}
 use Rattle.journal_calls.proofs.journal_line.Statement.{statement}
 use Rattle.journal_calls.proofs.journal_line.Tie as tie
 

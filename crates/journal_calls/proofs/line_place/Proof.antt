@@ -1,7 +1,7 @@
 -- `journal_calls::line_place` meets its contract.
 -- Assumes nothing.
-use Rattle.journal_calls.specs.Restart.{linePlace}
 use borrow.Author.Tests.{le-leb, lt-leb}
+use Rattle.journal_calls.specs.Restart.{linePlace}
 use Rattle.journal_calls.proofs.line_place.Statement.{statement}
 use Rattle.journal_calls.proofs.line_place.Tie as tie
 

@@ -1,9 +1,9 @@
 -- `journal_calls::names` meets its contract.
 -- Assumes nothing.
 use mathlib.Core.Path.{sym}
-use Rattle.journal_calls.proofs.Lines.{zero-not, index-same}
 use borrow.Author.Tests.{eq-eqb, ne-eqb}
 use borrow.Author.Needs.{needs}
+use Rattle.journal_calls.proofs.Lines.{zero-not, index-same}
 use Rattle.journal_calls.proofs.names.Statement.{statement}
 use Rattle.journal_calls.proofs.names.Tie as tie
 

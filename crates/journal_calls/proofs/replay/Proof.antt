@@ -4,11 +4,11 @@ use mathlib.Core.Path.{_≡_, refl, ap, _∙_}
 use Prim.Native.Nat.{ℕ, _+_, _-_, _*_, _≤_}
 use native.Mathlib.Nat.{sub-zero}
 use native.Mathlib.Omega.{arith}
+use lib.ListN.{length, take, drop}
 use borrow.Author.Needs.{needs}
 use borrow.Author.Tests.{not-false}
-use lib.ListN.{length, take, drop}
-use Rattle.event_lines.specs.Line.{lineOf}
 use Rattle.run.specs.State.{start, standing}
+use Rattle.event_lines.specs.Line.{lineOf}
 use Rattle.journal_calls.specs.Restart.{replay}
 use Rattle.journal_calls.proofs.Lines.{step-on, line-few}
 use Rattle.journal_calls.proofs.Replaying.{none-left, one-read, rest, replay-end, replay-wrong, replay-on}

@@ -1,9 +1,9 @@
 -- `journal_calls::restart` meets its contract.
 -- Assumes nothing.
 use native.Mathlib.Omega.{arith}
+use borrow.Author.Needs.{needs}
 use Rattle.calls.proofs.Exits.{bounded}
 use Rattle.journal_calls.proofs.Exits.{place-small, refused, short, wrong, right}
-use borrow.Author.Needs.{needs}
 use Rattle.journal_calls.proofs.restart.Statement.{statement}
 use Rattle.journal_calls.proofs.restart.Tie as tie
 

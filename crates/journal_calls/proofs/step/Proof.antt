@@ -4,10 +4,10 @@ use mathlib.Core.Path.{_≡_}
 use Prim.Native.Nat.{_-_, _≤_, _<_}
 use lib.ListN.{length}
 use mir.Syntax.{w8}
+use borrow.Author.Needs.{needs}
 use Rattle.bounded.proofs.Arrays.{field-length}
 use Rattle.journal_calls.specs.Restart.{lineTaken, stepped}
 use Rattle.journal_calls.proofs.Lines.{not-taken, booking-few, was-taken}
-use borrow.Author.Needs.{needs}
 use Rattle.journal_calls.proofs.step.Statement.{statement}
 use Rattle.journal_calls.proofs.step.Tie as tie
 

@@ -1,7 +1,7 @@
 -- `journal_calls::take_line` meets its contract.
 -- Assumes nothing.
-use Rattle.journal_calls.proofs.Lines.{by-order, by-reply}
 use borrow.Author.Needs.{needs}
+use Rattle.journal_calls.proofs.Lines.{by-order, by-reply}
 use Rattle.journal_calls.proofs.take_line.Statement.{statement}
 use Rattle.journal_calls.proofs.take_line.Tie as tie
 

@@ -1,8 +1,8 @@
 -- `journal_calls::take_order` meets its contract.
 -- Assumes nothing.
-use Rattle.journal_calls.proofs.Lines.{order-line}
-use Rattle.journal_calls.specs.Restart.{due}
 use borrow.Author.Needs.{needs}
+use Rattle.journal_calls.specs.Restart.{due}
+use Rattle.journal_calls.proofs.Lines.{order-line}
 use Rattle.journal_calls.proofs.take_order.Statement.{statement}
 use Rattle.journal_calls.proofs.take_order.Tie as tie
 
