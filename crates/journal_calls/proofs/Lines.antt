@@ -102,15 +102,14 @@ silent-due l b is-flown d = clash true refl (sym d)
 
 -- ---- a line taken
 
-pub order-line : (g : Network) (r : Run) (l b : ℕ) (t : Ordered) → t ≡ next g r → (d : Bool) → d ≡ due l b (t .order)
-    → _≡_ {A = Replied} (record { taken = d; run = t .run }) (orderTaken g r l b)
+pub order-line : (t : Ordered) (l b : ℕ) (d : Bool) → d ≡ due l b (t .order) → _≡_ {A = Replied} (record { taken = d; run = t .run }) (orderTaken t l b)
 unfolding orderTaken
-order-line g r l b t e d p = rw (p, e)
+order-line t l b d p = rw p
 
 module _ (g : Network) (r : Run) (l b : ℕ) (o : Bool) (eo : o ≡ isOrder l) (t : Replied) where
-  pub by-order : o ≡ true → t ≡ orderTaken g r l b → t ≡ lineTaken g r (Given l b)
+  pub by-order : o ≡ true → (n : Ordered) → n ≡ next g r → t ≡ orderTaken n l b → t ≡ lineTaken g r (Given l b)
   unfolding lineTaken
-  by-order z p = rw (sym eo ∙ z) p
+  by-order z n en p = rw (sym eo ∙ z, ← en) p
 
   pub by-reply : o ≡ false → t ≡ replyTo g r l b → t ≡ lineTaken g r (Given l b)
   unfolding lineTaken
@@ -238,5 +237,5 @@ module _ (g : Network) (few : g .a ≤ 16) where
     -- a line leaves a way within the limit
     pub line-few : (line : Line) → lineTaken g r line .run .way ≤ 16
     unfolding lineTaken orderTaken
-    line-few (Given l b) = by-cond (λ (t : Replied). t .run .way ≤ 16) {t = isOrder l} {a = orderTaken g r l b} {b = replyTo g r l b} (λ e. order-few (sent g r)) (λ e. numbered-few l b)
+    line-few (Given l b) = by-cond (λ (t : Replied). t .run .way ≤ 16) {t = isOrder l} {a = orderTaken (next g r) l b} {b = replyTo g r l b} (λ e. order-few (sent g r)) (λ e. numbered-few l b)
     line-few Misformed = h

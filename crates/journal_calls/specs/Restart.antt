@@ -14,6 +14,7 @@ use Rattle.run.specs.Bytes.{bytesOf}
 use Rattle.run.specs.Orders.{next}
 use Rattle.run.specs.Replies.{misfits}
 use Rattle.run.specs.declared.Run.{Run}
+use Rattle.run.specs.declared.Ordered.{Ordered}
 use Rattle.run.specs.declared.Replied.{Replied}
 use Rattle.run.specs.declared.Order.{Order}
 use Rattle.run.specs.declared.Order.the-variants.{Request, Return, Wait, Flown, Off}
@@ -32,12 +33,12 @@ due l b Wait = false
 due l b (Flown w) = false
 due l b Off = false
 
-unfoldable pub orderTaken : Network → Run → ℕ → ℕ → Replied
-orderTaken g r l b = record { taken = due l b (next g r .order); run = next g r .run }
+unfoldable pub orderTaken : Ordered → ℕ → ℕ → Replied
+orderTaken t l b = record { taken = due l b (t .order); run = t .run }
 
 -- a line is taken where it is the order that was due, or a reply that fits; and the state after it. A misformed one is not.
 unfoldable pub lineTaken : Network → Run → Line → Replied
-lineTaken g r (Given l b) = cond (isOrder l) (orderTaken g r l b) (replyTo g r l b)
+lineTaken g r (Given l b) = cond (isOrder l) (orderTaken (next g r) l b) (replyTo g r l b)
 lineTaken g r Misformed = misfits r
 
 -- the same with how the bookings stand then, so that they need not be looked at again; a line that is not taken leads nowhere

@@ -3,6 +3,7 @@ use event_lines::Line;
 use journal::Entry;
 use network::Network;
 use run::Order;
+use run::Ordered;
 use run::Replied;
 use run::Run;
 use standing::Standing;
@@ -103,12 +104,10 @@ fn names(letter: u8, booking: u32, of: u8, x: usize) -> bool
     booking as usize - 1 == x
 }
 
-// Takes an order's line: it must be the order that is due.
-fn take_order(g: Network, r: Run, s: Standing, letter: u8, booking: u32) -> Replied
-    requires { ⌜ (g .n ≤ 64) × (r .way ≤ 16) × (s ≡ standing g r) ⌝ }
-    ensures { λ t. ⌜ t ≡ orderTaken g r letter booking ⌝ }
+// Takes an order's line: it must be the order that next order gave.
+fn take_order(t: Ordered, letter: u8, booking: u32) -> Replied
+    ensures { λ r. ⌜ r ≡ orderTaken t letter booking ⌝ }
 {
-    let t = r.next_order(g, s);
     let order = t.order;
     let run = t.run;
     let taken = match order {
@@ -127,7 +126,7 @@ fn take_line(g: Network, r: Run, s: Standing, letter: u8, booking: u32) -> Repli
     ensures { λ t. ⌜ t ≡ lineTaken g r (Line.Given letter booking) ⌝ }
 {
     if is_order(letter) {
-        return take_order(g, r, s, letter, booking);
+        return take_order(r.next_order(g, s), letter, booking);
     }
     calls::reply_to(r, g, s, letter, booking)
 }
