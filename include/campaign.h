@@ -9,22 +9,25 @@
  * First comes what all calls share, then the calls in groups:
  *
  *     Sheets     campaign_check
- *     The run    campaign_start, campaign_next_order, campaign_reply
+ *     The run    campaign_start, campaign_next_order, campaign_reply,
+ *                campaign_reply_block
  *     Journal    campaign_journal_line, campaign_restart
  *
  *
  * What may be lent
  * ----------------
  * A pointer must reach as many bytes as its length says. A length of 0 lends
- * nothing, and the pointer may then be null: so an empty journal may be lent as
- * NULL, 0. What a call may write (state, line) must not overlap with anything
- * else that it is lent. Beyond that every byte and every length is allowed: what
- * is wrong with them is answered by a refusal. A refused call leaves every lent
- * byte as it was.
+ * nothing, and the pointer may then be null: so an empty journal or block may be
+ * lent as NULL, 0. What a call may write (state, line) must not overlap with
+ * anything else that it is lent. Beyond that every byte and every length is
+ * allowed: what is wrong with them is answered by a refusal. A refused call
+ * leaves every lent byte as it was; only campaign_reply_block keeps the replies
+ * before a bad line of its block.
  *
  * Nothing is kept between the calls: all of a campaign stands in its sheet and
  * its state. Calls on different states may run at the same time; while a call
- * runs, nobody else may write its sheet or journal or touch its state or line.
+ * runs, nobody else may write its sheet, block or journal or touch its state or
+ * line.
  *
  *
  * The plan sheet
@@ -83,7 +86,8 @@ extern "C" {
    each of 64 bookings. Booking b has byte b; bytes past the last booking are 0. */
 #define CAMPAIGN_STATE_LENGTH 65
 
-/* Bytes of a journal line. */
+/* Bytes of a line of a block or a journal. */
+#define CAMPAIGN_BLOCK_LINE_LENGTH 6
 #define CAMPAIGN_JOURNAL_LINE_LENGTH 6
 
 /* What each booking's byte says. */
@@ -97,7 +101,8 @@ enum campaign_code {
 
 /* The kind of an answer; in brackets its place. */
 enum campaign_kind {
-    /* Nothing was done, see the refusal (place: with the refusal). */
+    /* Nothing was done, see the refusal (place: with the refusal). A block is
+       done up to its first bad line. */
     CAMPAIGN_REFUSED = 0,
     /* Send this booking's desk a request (the booking). */
     CAMPAIGN_REQUEST = 1,
@@ -110,21 +115,24 @@ enum campaign_kind {
     /* The end: nothing is held (0). */
     CAMPAIGN_CALLED_OFF = 5,
     /* check, start: the sheet passes (0); reply: it was taken (the booking);
-       journal line: it was written (its length, 6); restart: the journal is
-       right (0). */
+       block: all its replies were taken (their number); journal line: it was
+       written (its length, 6); restart: the journal is right (0). */
     CAMPAIGN_ACCEPTED = 6
 };
 
 /*
  * The refusals; in brackets the place. Lines are counted from 1. Of several
  * faults the first is given: 1 to 3 line by line from the top (on one line 1,
- * then 2, then 3), then 4 to 8, then 11, then 9 or 12, then 10.
+ * then 2, then 3), then 4 to 8, then 11, then 9 or 12, then 10. Where 9 stands
+ * here, a block has 1 or 9, whichever its first bad line has.
  */
 enum campaign_refusal {
     /* Not refused. */
     CAMPAIGN_NO_REFUSAL = 0,
     /* The sheet ends early, a line is not of its form, or bytes follow the
-       last line (the line; for bytes too many the line after the last). */
+       last line (the line; for bytes too many the line after the last).
+       Of a block, after 11: a line is not of its form or is not finished (the
+       block's line). */
     CAMPAIGN_FORM = 1,
     /* A count is outside its limits (the line). */
     CAMPAIGN_COUNT = 2,
@@ -147,7 +155,7 @@ enum campaign_refusal {
     CAMPAIGN_STRANDING = 8,
     /* The reply does not fit: Y and N need a requested booking, G and K a
        returning one; or there is no such letter or booking (the booking given,
-       0 if it is above 64). */
+       0 if it is above 64; of a block its line). */
     CAMPAIGN_MISFIT = 9,
     /* A buffer is too short for the text to be written (0). */
     CAMPAIGN_SHORT_BUFFER = 10,
@@ -261,20 +269,62 @@ uint32_t campaign_reply(const uint8_t *sheet, size_t sheet_len,
                         uint8_t *state, size_t state_len,
                         uint8_t letter, uint32_t booking);
 
+/*
+ * Takes in a block of replies. A block is lines of six bytes: a reply's letter,
+ * the booking in four columns, a line feed.
+ *
+ *     Y   1      the desk of booking 1 confirmed it
+ *     N  12      that of booking 12 refused it
+ *
+ * The lines are taken one after the other, each as by campaign_reply, up to the
+ * first bad one. Accepted with the number of replies taken as place; an empty
+ * block takes none and has 0. Refused with 1 to 8 or 11, and then nothing
+ * changes. Else refused for the first bad line, with that line as place: with
+ * 1 if it is not of its form or the block ends within it, with 9 if the reply
+ * does not fit or there is no such letter or booking. The replies before the
+ * bad line stay taken; it and all after it count as not given.
+ *
+ * The sheet is read and checked once, so a block costs about as much as one
+ * reply. Between two orders a booking has at most one reply that fits: a block
+ * never takes more than 64, and no bad line has a number above 65.
+ */
+uint32_t campaign_reply_block(const uint8_t *sheet, size_t sheet_len,
+                              const uint8_t *block, size_t block_len,
+                              uint8_t *state, size_t state_len);
+
+/*
+ * How many replies a block has kept, by the answer to it: its first lines. Only
+ * for a sheet that campaign_start has accepted: another sheet's own refusal 1
+ * looks like a bad line's, and keeps nothing.
+ */
+static inline uint32_t campaign_kept_of(uint32_t answer)
+{
+    uint32_t refusal = campaign_refusal_of(answer);
+    uint32_t place = campaign_place_of(answer);
+    if (campaign_kind_of(answer) == CAMPAIGN_ACCEPTED)
+        return place;
+    if ((refusal == CAMPAIGN_FORM || refusal == CAMPAIGN_MISFIT) && place > 0)
+        return place - 1;
+    return 0;
+}
+
 /* ============================== Journal =============================== */
 
 /*
  * A journal is a file with one line for each request or return that
- * campaign_next_order gave and for each reply that campaign_reply accepted, in
- * the order of the calls: the line's letter, the booking in four columns, a
- * line feed. Waits, ends and refused calls have no line.
+ * campaign_next_order gave and for each reply that campaign_reply accepted or
+ * campaign_reply_block kept, in the order of the calls: the line's letter, the
+ * booking in four columns, a line feed. Waits, ends and refused calls have no
+ * line. The lines of a block are its own first bytes, six times
+ * campaign_kept_of of its answer.
  *
  *     Q   1      booking 1 was requested
  *     Y   1      its desk confirmed it
  *
- * Store (append and sync) the line of an order or of an accepted reply before
- * the next call, and an order's line also before the order is sent. Then the
- * program may stop at any moment, in the middle of a write too. After a stop:
+ * Store (append and sync) the line of an order or of an accepted reply, or the
+ * lines of a block, before the next call, and an order's line also before the
+ * order is sent. Then the program may stop at any moment, in the middle of a
+ * write too, and of a block's lines as well. After a stop:
  *
  *     campaign_restart gives the state that follows the journal's whole lines;
  *     cut the file to whole lines, its length - length % 6, before you store
@@ -283,7 +333,7 @@ uint32_t campaign_reply(const uint8_t *sheet, size_t sheet_len,
  *     state[b] is CAMPAIGN_REQUESTED, an open return where it is
  *     CAMPAIGN_RETURNING. This is no further request or return;
  *     discard any later reply to an order whose reply the journal has;
- *     go on with campaign_next_order and campaign_reply.
+ *     go on with campaign_next_order and campaign_reply (or a block).
  *
  * An order or a reply without its whole line counts as not made. Where desks
  * answer an order that is sent twice as they answered it first, the campaign

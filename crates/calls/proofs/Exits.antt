@@ -5,7 +5,8 @@ use mathlib.Core.Bool.{Bool, true, false, not, _&&_, cond}
 use mathlib.Core.Logic.{inl, inr}
 use mathlib.Core.List.{List}
 use Prim.Native.Nat.{ℕ, _≤_}
-use lib.ListN.{length}
+use native.Mathlib.Omega.{arith}
+use lib.ListN.{length, length-drop}
 use lib.Dec.{eqb}
 use borrow.Author.Tests.{eq-eqb, ne-eqb, eqb-true, not-true, not-false}
 use Rattle.bounded.proofs.Bools.{which, and-l, and-r}
@@ -135,18 +136,22 @@ module _ (s bs : List ℕ) (c : Campaign) (e : c ≡ takenUp s bs) where
       go false = refl
 
   -- it is not taken up
+  pub not-taken : not (c .sound) ≡ true → (inOrder s bs ≡ false) × (c .bits ≡ refusedWith s)
+  unfolding takenUp turnedAway
+  not-taken n = let o : inOrder s bs ≡ false = sym order-is ∙ not-true (c .sound) n in (o, ap (λ (x : Campaign). x .bits) e ∙ rw o)
+
   pub asked-refused : not (c .sound) ≡ true → (q : Asked) → (c .bits ≡ askedCall s bs q) × (bs ≡ askedLeaves s bs q)
-  unfolding takenUp turnedAway inOrder refusedWith askedCall askedLeaves callBits callBytes
+  unfolding inOrder refusedWith askedCall askedLeaves callBits callBytes
   asked-refused n q =
-      let o : inOrder s bs ≡ false = sym order-is ∙ not-true (c .sound) n in
+      let (o, b) = not-taken n in
       elim (which (sheetPasses s)) [
-        | inl p ↦ (let u : soundBytes (networkIn s) bs ≡ false = rw p at o in (ap (λ (x : Campaign). x .bits) e ∙ rw (p, u), rw (p, u)))
-        | inr p ↦ (ap (λ (x : Campaign). x .bits) e ∙ rw p, rw p)
+        | inl p ↦ (let u : soundBytes (networkIn s) bs ≡ false = rw p at o in (b ∙ rw (p, u), rw (p, u)))
+        | inr p ↦ (b ∙ rw p, rw p)
       ]
 
   -- it is taken up
   module _ (n : not (c .sound) ≡ false) where
-    in-order : inOrder s bs ≡ true
+    pub in-order : inOrder s bs ≡ true
     in-order = sym order-is ∙ not-false (c .sound) n
 
     passing : sheetPasses s ≡ true
@@ -161,9 +166,13 @@ module _ (s bs : List ℕ) (c : Campaign) (e : c ≡ takenUp s bs) where
     unfolding soundBytes
     size = eqb-true (length bs) 65 (and-l (eqb (length bs) 65) _ sound-state)
 
-    taken-is : c ≡ lookedAt (networkIn s) (runOf bs)
+    pub taken-is : c ≡ lookedAt (networkIn s) (runOf bs)
     unfolding takenUp
     taken-is = e ∙ rw in-order
+
+    pub codes : length (c .run .code) ≡ 64
+    unfolding runOf
+    codes = rw taken-is (let n = size in omega (arith, length-drop 1 bs))
 
     -- what next order and reply rely on
     pub ready : (c .network .n ≤ 64) × (c .network .a ≤ 16) × (c .run .way ≤ 16) × (c .standing ≡ standing (c .network) (c .run))

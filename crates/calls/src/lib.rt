@@ -200,7 +200,7 @@ fn turned_away(bits: u32) -> Campaign
 }
 
 // Takes a campaign up: its sheet is judged, then its state, which is looked at once.
-fn take_up(sheet: &[u8], state: &[u8]) -> Campaign
+pub fn take_up(sheet: &[u8], state: &[u8]) -> Campaign
     ensures { λ r. ⌜ r ≡ takenUp (now (sheet .entry)) (now (state .entry)) ⌝ }
 {
     let c = judge_sheet(sheet);

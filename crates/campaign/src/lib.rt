@@ -3,6 +3,7 @@ ghost use mathlib.Core.Path.{_≡_};
 ghost use Rattle.guarantee.specs.Machine.{nextOrder, replied};
 ghost use Rattle.calls.specs.Calls.{checkCall, startCall, startLeaves, askedCall, askedLeaves};
 ghost use lib.ListN.{length};
+ghost use Rattle.block_calls.specs.Block.{blockCall, blockLeaves};
 ghost use Rattle.journal_calls.specs.Journal.{journalLineCall, journalLineLeaves};
 ghost use Rattle.journal_calls.specs.Restart.{restartCall, restartLeaves};
 
@@ -43,6 +44,15 @@ pub extern "C" fn campaign_reply(sheet: &[u8], state: &mut [u8], letter: u8, boo
     ensures left { λ _. ⌜ now (state .exit) ≡ askedLeaves (now (sheet .entry)) (now (state .entry)) (replied letter booking) ⌝ }
 {
     calls::reply(sheet, state, letter, booking)
+}
+
+// Takes the replies of a block, up to its first bad line.
+#[no_mangle]
+pub extern "C" fn campaign_reply_block(sheet: &[u8], block: &[u8], state: &mut [u8]) -> u32
+    ensures answer { λ r. ⌜ r ≡ blockCall (now (sheet .entry)) (now (block .entry)) (now (state .entry)) ⌝ }
+    ensures left { λ _. ⌜ now (state .exit) ≡ blockLeaves (now (sheet .entry)) (now (block .entry)) (now (state .entry)) ⌝ }
+{
+    block_calls::reply_block(sheet, block, state)
 }
 
 // ---- the journal

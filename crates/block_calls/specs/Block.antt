@@ -1,0 +1,62 @@
+-- A block of replies: lines of six bytes, taken one after the other up to the first bad one.
+-- Assumes nothing.
+use mathlib.Core.Bool.{cond}
+use mathlib.Core.List.{List, [], _∷_}
+use Prim.Native.Nat.{ℕ, zero, suc, _+_, _/_}
+use lib.Dec.{eqb}
+use lib.ListN.{length, take, drop}
+use Rattle.event_lines.specs.Line.{lineOf}
+use Rattle.event_lines.specs.declared.Line.{Line}
+use Rattle.event_lines.specs.declared.Line.the-variants.{Given, Misformed}
+use Rattle.network.specs.declared.Network.{Network}
+use Rattle.run.specs.Replies.{misfits}
+use Rattle.run.specs.Bytes.{bytesOf, runOf}
+use Rattle.run.specs.declared.Run.{Run}
+use Rattle.run.specs.declared.Replied.{Replied}
+use Rattle.guarantee.specs.Answers.{pack}
+use Rattle.guarantee.specs.Machine.{Asked, replied, replyTo, final}
+use Rattle.calls.specs.Calls.{networkIn, inOrder, refusedWith}
+use Rattle.block_calls.specs.declared.Block.{Block}
+
+-- so many lines of six bytes, and all lines of a block; fewer bytes at the end are a line too, an unfinished one, and so misformed
+unfoldable pub linesFrom : ℕ → List ℕ → List Line
+linesFrom zero rest = []
+linesFrom (suc more) rest = lineOf (take 6 rest) ∷ linesFrom more (drop 6 rest)
+
+unfoldable pub linesOf : List ℕ → List Line
+linesOf block = linesFrom ((length block + 5) / 6) block
+
+-- what comes of a line's reply; a misformed line has none
+unfoldable pub replyOn : Network → Run → Line → Replied
+replyOn g r (Given l b) = replyTo g r l b
+replyOn g r Misformed = misfits r
+
+-- the replies that are kept, as calls made singly: those before the first line that is misformed or does not fit
+unfoldable pub keptOf : Network → Run → List Line → List Asked
+keptOf g r [] = []
+keptOf g r (Given l b ∷ lines) = cond (replyTo g r l b .taken) (replied l b ∷ keptOf g (replyTo g r l b .run) lines) []
+keptOf g r (Misformed ∷ lines) = []
+
+-- what is wrong with the line after them: 1 where it is misformed, 9 where its reply does not fit; 0 where no line is left
+unfoldable pub faultOf : List Line → ℕ
+faultOf [] = 0
+faultOf (Given l b ∷ lines) = 9
+faultOf (Misformed ∷ lines) = 1
+
+-- a block taken: how many replies are kept, what is wrong with the next line, and the state after the kept ones
+unfoldable pub blockOf : Network → Run → List Line → Block
+blockOf g r lines = let kept = keptOf g r lines in record { kept = length kept; fault = faultOf (drop (length kept) lines); run = final g r kept }
+
+-- accepted with the number taken, or the fault with its line
+unfoldable pub blockBits : Block → ℕ
+blockBits t = cond (eqb (t .fault) 0) (pack 6 0 (t .kept)) (pack 0 (t .fault) (t .kept + 1))
+
+-- a block on a sheet's and a state's bytes: where the sheet is refused, or else the state is not sound, nothing is taken
+unfoldable pub blockIn : List ℕ → List ℕ → List ℕ → Block
+blockIn s block bs = blockOf (networkIn s) (runOf bs) (linesOf block)
+
+unfoldable pub blockCall : List ℕ → List ℕ → List ℕ → ℕ
+blockCall s block bs = cond (inOrder s bs) (blockBits (blockIn s block bs)) (refusedWith s)
+
+unfoldable pub blockLeaves : List ℕ → List ℕ → List ℕ → List ℕ
+blockLeaves s block bs = cond (inOrder s bs) (bytesOf (blockIn s block bs .run)) bs

@@ -1,0 +1,2 @@
+-- The definitions of crate `block_calls`.
+pub mod Block
