@@ -9,6 +9,7 @@ use native.Mathlib.Omega.{arith}
 use lib.ListN.{length}
 use Rattle.guarantee.specs.Machine.{Asked, nextOrder, replied}
 use Rattle.calls.specs.Calls.{sheetPasses, startCall, startLeaves, askedCall, askedLeaves}
+use Rattle.whole_campaign.specs.Calls.{Call, single, leaves}
 use Rattle.whole_campaign.specs.Lists.{leftOn}
 use Rattle.whole_campaign.specs.Whole.{WholeCampaign}
 use Rattle.whole_campaign.proofs.Lists.{left-append}
@@ -81,13 +82,13 @@ from-start s lent b₀ st₀ st e f d = rw (← e, ← f) d
 
 -- ---- a list of calls
 
-one-more : (s st₀ st st′ : List ℕ) (q : Asked) → (qs : List Asked) × (st ≡ leftOn s st₀ qs) → st′ ≡ askedLeaves s st q
-    → (qs : List Asked) × (st′ ≡ leftOn s st₀ qs)
-unfolding leftOn
-one-more s st₀ st st′ q (qs, e) f = (qs ++ (q ∷ []), f ∙ rw e (sym (left-append s st₀ qs (q ∷ []))))
+one-more : (s st₀ st st′ : List ℕ) (q : Asked) → (cs : List Call) × (st ≡ leftOn s st₀ cs) → st′ ≡ askedLeaves s st q
+    → (cs : List Call) × (st′ ≡ leftOn s st₀ cs)
+unfolding leftOn leaves
+one-more s st₀ st st′ q (cs, e) f = (cs ++ (single q ∷ []), f ∙ rw e (sym (left-append s st₀ cs (single q ∷ []))))
 
 -- the drill's state is what a list of calls leaves of the one that it began with
-pub drilled-calls : (s : List ℕ) (b₀ : ℕ) (st₀ : List ℕ) (b : ℕ) (st : List ℕ) → Drilled s b₀ st₀ b st → (qs : List Asked) × (st ≡ leftOn s st₀ qs)
+pub drilled-calls : (s : List ℕ) (b₀ : ℕ) (st₀ : List ℕ) (b : ℕ) (st : List ℕ) → Drilled s b₀ st₀ b st → (cs : List Call) × (st ≡ leftOn s st₀ cs)
 unfolding leftOn
 drilled-calls s b₀ st₀ b st begun = ([], refl)
 drilled-calls s b₀ st₀ b st (ordered d k c) = one-more s st₀ _ _ _ (drilled-calls s b₀ st₀ _ _ d) (c .leaves)
@@ -95,5 +96,5 @@ drilled-calls s b₀ st₀ b st (heard letter booking d k c) = one-more s st₀ 
 
 -- so with a sheet that passes it is a whole campaign
 pub drilled-whole : (s lent st : List ℕ) → sheetPasses s ≡ true → length lent ≡ 65 → DrilledFromStart s lent st
-    → (qs : List Asked) × (st ≡ leftOn s (startLeaves s lent) qs) × WholeCampaign s (startLeaves s lent) qs
-drilled-whole s lent st e h (b, d) = let (qs, f) = drilled-calls s _ _ b st d in (qs, f, whole-campaign s e lent h qs)
+    → (cs : List Call) × (st ≡ leftOn s (startLeaves s lent) cs) × WholeCampaign s (startLeaves s lent) cs
+drilled-whole s lent st e h (b, d) = let (cs, f) = drilled-calls s _ _ b st d in (cs, f, whole-campaign s e lent h cs)

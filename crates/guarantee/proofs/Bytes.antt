@@ -17,12 +17,12 @@ use Rattle.guarantee.specs.Machine.{Asked, answer, after, machineAnswers
 use Rattle.guarantee.specs.Calls.{callBits, callBytes, answers, states, left}
 use Rattle.guarantee.proofs.Moved.{moved}
 
-same-run : (r : Run) → runOf (bytesOf r) ≡ r
+pub same-run : (r : Run) → runOf (bytesOf r) ≡ r
 unfolding runOf bytesOf
 same-run r = refl
 
 module _ (g : Network) (ok : Passes g) where
-  fine : (r : Run) → Sound g r → soundBytes g (bytesOf r) ≡ true
+  pub fine : (r : Run) → Sound g r → soundBytes g (bytesOf r) ≡ true
   unfolding soundBytes bytesOf runOf
   fine r s = eq-eqb _ _ (ap suc (s .core .size)) & sound-i g (ok .shape) r s
 

@@ -1,4 +1,5 @@
 -- The laws and theorems of crate `stopped_campaign`.
 pub mod OneLine
+pub mod Blocks
 pub mod Replays
 pub mod Stopped

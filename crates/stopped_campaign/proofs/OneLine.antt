@@ -39,7 +39,7 @@ return-line : (b : ℕ) → b < 65536 → entryOf nextOrder (pack 2 0 b) ≡ lin
 unfolding entryOf
 return-line b h = rw (kind-pack 2 0 b (omega arith) h, place-pack 2 0 b h)
 
-reply-line : (l b : ℕ) → b < 65536 → entryOf (replied l b) (pack 6 0 b) ≡ lineText l b
+pub reply-line : (l b : ℕ) → b < 65536 → entryOf (replied l b) (pack 6 0 b) ≡ lineText l b
 unfolding entryOf accepts
 reply-line l b h = rw (kind-pack 6 0 b (omega arith) h)
 

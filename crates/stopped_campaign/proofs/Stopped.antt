@@ -1,13 +1,15 @@
--- A campaign that is stopped and restarted: the three theorems, for every sheet that passes and every list of calls, on bytes and in 32 bits.
+-- A campaign that is stopped and restarted: the theorems, for every sheet that passes and every list of calls, on bytes and in 32 bits.
 -- Assumes nothing.
 use mathlib.Core.Path.{_≡_, refl, sym, ap, _∙_}
 use mathlib.Core.Logic.{inl, inr}
 use mathlib.Core.Bool.{true}
-use mathlib.Core.List.{List, [], _∷_, _++_, append-assoc}
+use mathlib.Core.List.{List, [], _∷_, _++_, map, append-assoc, append-nil}
 use Prim.Native.Nat.{ℕ, zero, suc, _+_, _*_, _/_, _≤_}
 use native.Mathlib.Omega.{arith}
 use lib.Dec.{eqb}
+use native.Mathlib.Nat.{le-refl}
 use lib.ListN.{length, getD, take}
+use lib.Seq.{take-length}
 use borrow.Author.Tests.{eqb-true, eq-eqb}
 use Rattle.bounded.specs.Bounded.{one}
 use Rattle.bounded.proofs.Bools.{which}
@@ -19,17 +21,22 @@ use Rattle.guarantee.specs.Counted.{ordered, answered, tally}
 use Rattle.guarantee.proofs.Start.{all-free, start-sound}
 use Rattle.guarantee.proofs.Moved.{awaits}
 use Rattle.guarantee.proofs.Whole.{travel}
-use Rattle.calls.specs.Calls.{networkIn, sheetPasses, checkCall, startLeaves, askedCall, askedLeaves}
+use Rattle.calls.specs.Calls.{networkIn, sheetPasses, checkCall, startLeaves}
 use Rattle.calls.proofs.FirstAnswer.{refused-low}
-use Rattle.journal_calls.specs.Journal.{entryOf, journalOf, callsOf}
+use Rattle.journal_calls.specs.Journal.{entryOf, journalOf, callsFrom, callsOf}
 use Rattle.journal_calls.specs.Restart.{replay, linePlace, replayBits, restartCall, restarts, restartLeaves}
 use Rattle.journal_calls.specs.declared.Replayed.{Replayed}
 use Rattle.journal_calls.proofs.Exits.{place-small}
+use Rattle.block_calls.specs.Block.{linesOf}
+use Rattle.whole_campaign.specs.Calls.{Call, single, block, singles, gives, leaves, givesBy}
 use Rattle.whole_campaign.specs.Lists.{answersOn, leftOn}
-use Rattle.whole_campaign.proofs.Lists.{answers-append, states-append}
-use Rattle.whole_campaign.proofs.Whole.{passing, left-final, answer-is, started, from-start}
-use Rattle.stopped_campaign.specs.Stopped.{journalOn, wholeLines, Writable, Faithful, isOpen, AcrossTheStop, Exact}
+use Rattle.whole_campaign.specs.Singly.{keptBy, callsIn, keptAs, answersIn, singly, singlyTold, singlyOn, toldOn}
+use Rattle.whole_campaign.proofs.Lists.{answers-append, states-append, left-append, singles-calls}
+use Rattle.whole_campaign.proofs.Parts.{parts, told-kept, calls-told}
+use Rattle.whole_campaign.proofs.Whole.{passing, gives-is, left-final, singles-left, singles-bits, answer-is, started, from-start}
+use Rattle.stopped_campaign.specs.Stopped.{journalOn, wholeLines, Writable, OfABlock, Faithful, isOpen, AcrossTheStop, Exact}
 use Rattle.stopped_campaign.proofs.OneLine.{next-has, reply-has}
+use Rattle.stopped_campaign.proofs.Blocks.{kept-lines}
 use Rattle.stopped_campaign.proofs.Replays.{machineJournal, Cut, cut, Replays, replayed}
 
 -- ---- what restart's answer says
@@ -67,12 +74,36 @@ module _ (s journal lent : List ℕ) (a : Accepted s journal lent) where
   leaves-is = rw (a .passes, eq-eqb (length lent) 65 (a .size), a .right)
 
 -- two lists of calls as one have the journals of both
-journal-append : (s bs : List ℕ) (ps qs : List Asked) → journalOn s bs (ps ++ qs) ≡ journalOn s bs ps ++ journalOn s (leftOn s bs ps) qs
-unfolding journalOn journalOf answersOn leftOn
-journal-append s bs [] qs = refl
-journal-append s bs (p ∷ ps) qs =
-    ap (λ (t : List ℕ). entryOf p (askedCall s bs p) ++ t) (journal-append s (askedLeaves s bs p) ps qs)
-    ∙ sym (append-assoc (entryOf p (askedCall s bs p)) (journalOn s (askedLeaves s bs p) ps) (journalOn s (leftOn s (askedLeaves s bs p) ps) qs))
+kept-append : (ps qs : List Asked) (ys : List ℕ) → journalOf (ps ++ qs) (map keptAs ps ++ ys) ≡ journalOf ps (map keptAs ps) ++ journalOf qs ys
+unfolding journalOf
+kept-append [] qs ys = refl
+kept-append (p ∷ ps) qs ys =
+    ap (λ (t : List ℕ). entryOf p (keptAs p) ++ t) (kept-append ps qs ys) ∙ sym (append-assoc (entryOf p (keptAs p)) (journalOf ps (map keptAs ps)) (journalOf qs ys))
+
+call-append : (c : Call) (x : ℕ) (qs : List Asked) (ys : List ℕ) → journalOf (callsIn c x ++ qs) (answersIn c x ++ ys) ≡ journalOf (callsIn c x) (answersIn c x) ++ journalOf qs ys
+unfolding callsIn answersIn journalOf
+call-append (single q) x qs ys = sym (append-assoc (entryOf q x) [] (journalOf qs ys))
+call-append (block lines) x qs ys = kept-append (callsFrom (keptBy x) lines) qs ys
+
+-- the lines of one call
+abbrev entriesOf : Call → ℕ → List ℕ
+entriesOf c x = journalOf (callsIn c x) (answersIn c x)
+
+journal-on : (s bs : List ℕ) (c : Call) (cs : List Call) → journalOn s bs (c ∷ cs) ≡ entriesOf c (gives s bs c) ++ journalOn s (leaves s bs c) cs
+unfolding journalOn singlyOn toldOn singly singlyTold answersOn
+journal-on s bs c cs = call-append c (gives s bs c) _ _
+
+journal-none : (s bs : List ℕ) → journalOn s bs [] ≡ []
+unfolding journalOn singlyOn toldOn singly singlyTold journalOf
+journal-none s bs = refl
+
+journal-append : (s bs : List ℕ) (cs ds : List Call) → journalOn s bs (cs ++ ds) ≡ journalOn s bs cs ++ journalOn s (leftOn s bs cs) ds
+unfolding leftOn
+journal-append s bs [] ds = rw (journal-none s bs)
+journal-append s bs (c ∷ cs) ds =
+    journal-on s bs c (cs ++ ds) ∙ ap (λ (t : List ℕ). entriesOf c (gives s bs c) ++ t) (journal-append s (leaves s bs c) cs ds)
+    ∙ sym (append-assoc (entriesOf c (gives s bs c)) (journalOn s (leaves s bs c) cs) (journalOn s (leftOn s (leaves s bs c) cs) ds))
+    ∙ ap (λ (t : List ℕ). t ++ journalOn s (leftOn s (leaves s bs c) cs) ds) (sym (journal-on s bs c cs))
 
 -- a reply is awaited where the code says that an order is open
 open-is : (c : ℕ) → c ≤ 4 → awaits c ≡ one (isOpen c)
@@ -92,22 +123,26 @@ module _ (s : List ℕ) (e : sheetPasses s ≡ true) where
   ways = passing s e .shape .few
 
   -- the stored journal is the plain machine's
-  journal-is : (qs : List Asked) → journalOn s (bytesOf start) qs ≡ machineJournal (networkIn s) start qs
+  journal-is : (cs : List Call) → journalOn s (bytesOf start) cs ≡ machineJournal (networkIn s) start (singlyOn s (bytesOf start) cs)
   unfolding journalOn
-  journal-is qs = ap (journalOf qs) (from-start s e qs .bits)
+  journal-is cs = let qs : List Asked = singlyOn s (bytesOf start) cs in ap (journalOf qs) (sym (from-start s e cs .same-answers) ∙ singles-bits s e qs)
+
+  journal-singles : (qs : List Asked) → journalOn s (bytesOf start) (singles qs) ≡ machineJournal (networkIn s) start qs
+  journal-singles qs = journal-is (singles qs) ∙ ap (machineJournal (networkIn s) start) (singles-calls s (bytesOf start) qs)
 
   -- ---- writable
 
-  writable-start : (qs : List Asked) → Writable s (bytesOf start) qs
-  writable-start qs =
+  writable-start : (cs : List Call) → Writable s (bytesOf start) cs
+  writable-start cs =
       let ok = passing s e in
+      let qs : List Asked = singlyOn s (bytesOf start) cs in
       let t = final (networkIn s) start qs in
       let k = travel (networkIn s) ok start (start-sound (networkIn s) ok) qs .sound in
       let h = next-has (networkIn s) bookings t (omega (arith, k .core .way, ways)) in
       record {
-        of-request = rw (answer-is s e qs nextOrder) (h .0);
-        of-return = rw (answer-is s e qs nextOrder) (h .1);
-        of-reply = λ l b. rw (answer-is s e qs (replied l b)) (reply-has (networkIn s) bookings t l b);
+        of-request = rw (answer-is s e cs nextOrder) (h .0);
+        of-return = rw (answer-is s e cs nextOrder) (h .1);
+        of-reply = λ l b. rw (answer-is s e cs (replied l b)) (reply-has (networkIn s) bookings t l b);
       }
 
   -- ---- what restart gives of a journal that it accepts
@@ -117,17 +152,20 @@ module _ (s : List ℕ) (e : sheetPasses s ≡ true) where
     unfolding replay
     replays = replayed (networkIn s) bookings ways start 1 (length journal / 6) journal (omega arith) (a .right)
 
-    left-calls : restartLeaves s journal lent ≡ leftOn s (bytesOf start) (callsOf journal)
+    left-calls : restartLeaves s journal lent ≡ leftOn s (bytesOf start) (singles (callsOf journal))
     unfolding replay callsOf
-    left-calls = leaves-is s journal lent a ∙ ap (λ (t : Replayed). bytesOf (t .run)) (replays .state) ∙ sym (left-final s e (callsOf journal))
+    left-calls = leaves-is s journal lent a ∙ ap (λ (t : Replayed). bytesOf (t .run)) (replays .state) ∙ sym (singles-left s e (callsOf journal))
 
     exact-start : Exact s (bytesOf start) journal
     unfolding wholeLines callsOf
-    exact-start = replays .lines ∙ sym (journal-is (callsOf journal))
+    exact-start = replays .lines ∙ sym (journal-singles (callsOf journal))
 
   -- ---- faithful
 
-  module _ (lent : List ℕ) (h : length lent ≡ 65) (qs : List Asked) (c : ℕ) where
+  module _ (lent : List ℕ) (h : length lent ≡ 65) (cs : List Call) (c : ℕ) where
+    qs : List Asked
+    qs = singlyOn s (bytesOf start) cs
+
     J : List ℕ
     J = take c (machineJournal (networkIn s) start qs)
 
@@ -139,42 +177,78 @@ module _ (s : List ℕ) (e : sheetPasses s ≡ true) where
     unfolding J replay
     stop-right = record { passes = e; size = h; right = ap (λ (t : Replayed). t .wrong) (stop .replays) }
 
-    stop-left : restartLeaves s J lent ≡ leftOn s (bytesOf start) (stop .before)
+    stop-left : restartLeaves s J lent ≡ leftOn s (bytesOf start) (singles (stop .before))
     unfolding J replay
-    stop-left = leaves-is s J lent stop-right ∙ ap (λ (t : Replayed). bytesOf (t .run)) (stop .replays) ∙ sym (left-final s e (stop .before))
+    stop-left = leaves-is s J lent stop-right ∙ ap (λ (t : Replayed). bytesOf (t .run)) (stop .replays) ∙ sym (singles-left s e (stop .before))
 
-    faithful-start : Faithful s (bytesOf start) lent qs c
-    unfolding J
+    faithful-start : Faithful s (bytesOf start) lent cs c
+    unfolding J qs
     faithful-start =
-        let j = journal-is qs in
+        let j = journal-is cs in
         record {
           accepted = rw j (accepted-i s J lent stop-right);
           follows = rw j (left-calls J lent stop-right);
-          moment = (stop .before, stop .later, stop .parts, rw (j, journal-is (stop .before)) (stop .lines), rw j stop-left);
-          whole = λ k. rw j (stop-left ∙ left-final s e (stop .before) ∙ ap bytesOf (stop .all (rw j at k)) ∙ sym (left-final s e qs));
+          moment = (stop .before, stop .later, stop .parts, rw (j, journal-singles (stop .before)) (stop .lines), rw j stop-left);
+          whole = λ k. rw j (stop-left ∙ singles-left s e (stop .before) ∙ ap bytesOf (stop .all (rw j at k)) ∙ sym (left-final s e cs));
+        }
+
+  -- ---- of a block
+
+  module _ (cs : List Call) (lines : List ℕ) where
+    kept : ℕ
+    kept = keptBy (gives s (leftOn s (bytesOf start) cs) (block lines))
+
+    -- the lines of the block, from the state that the calls before it left
+    block-lines : entriesOf (block lines) (gives s (leftOn s (bytesOf start) cs) (block lines)) ≡ take (6 * kept) lines
+    unfolding kept callsIn answersIn givesBy parts linesOf
+    block-lines =
+        let ok = passing s e in
+        let qs : List Asked = singlyOn s (bytesOf start) cs in
+        let t = final (networkIn s) start qs in
+        let k = travel (networkIn s) ok start (start-sound (networkIn s) ok) qs .sound in
+        let c = calls-told (networkIn s) ok t k (block lines) in
+        let n = told-kept (networkIn s) ok t k lines in
+        rw (left-final s e cs, gives-is s e t k (block lines), c, n) (kept-lines (networkIn s) bookings ((length lines + 5) / 6) t lines)
+
+    block-stored : journalOn s (bytesOf start) (cs ++ (block lines ∷ [])) ≡ journalOn s (bytesOf start) cs ++ take (6 * kept) lines
+    block-stored =
+        let bs : List ℕ = leftOn s (bytesOf start) cs in
+        journal-append s (bytesOf start) cs (block lines ∷ [])
+        ∙ ap (λ (t : List ℕ). journalOn s (bytesOf start) cs ++ t) (journal-on s bs (block lines) [] ∙ rw (journal-none s (leaves s bs (block lines)), block-lines) (append-nil (take (6 * kept) lines)))
+
+    block-start : (lent : List ℕ) → length lent ≡ 65 → OfABlock s (bytesOf start) lent cs lines
+    unfolding kept leftOn
+    block-start lent h =
+        let all : List Call = cs ++ (block lines ∷ []) in
+        let J : List ℕ = journalOn s (bytesOf start) all in
+        let f = faithful-start lent h all (length J) in
+        record {
+          stored = block-stored;
+          accepted = rw (← block-stored) (rw (take-length J) at (f .accepted));
+          follows = rw (← block-stored) ((rw (take-length J) at (f .whole (le-refl (length J)))) ∙ left-append s (bytesOf start) cs (block lines ∷ []));
         }
 
   -- ---- across the stop
 
   -- the open orders after a list of calls, by the bytes that it leaves
-  open-after : (qs : List Asked) (b : ℕ) → tally (ordered (suc b)) qs (answersOn s (bytesOf start) qs)
-      ≡ tally (answered (suc b)) qs (answersOn s (bytesOf start) qs) + one (isOpen (getD (leftOn s (bytesOf start) qs) (suc b) 0))
+  open-after : (qs : List Asked) (b : ℕ) → tally (ordered (suc b)) qs (answersOn s (bytesOf start) (singles qs))
+      ≡ tally (answered (suc b)) qs (answersOn s (bytesOf start) (singles qs)) + one (isOpen (getD (leftOn s (bytesOf start) (singles qs)) (suc b) 0))
   unfolding bytesOf code
   open-after qs b =
       let ok = passing s e in
       let k = travel (networkIn s) ok start (start-sound (networkIn s) ok) qs in
       let c : ℕ = code (final (networkIn s) start qs) b in
-      rw (from-start s e qs .bits, left-final s e qs) (omega (arith, k .opens b, ap awaits (all-free b), open-is c (k .sound .core .codes b)))
+      rw (singles-bits s e qs, singles-left s e qs) (omega (arith, k .opens b, ap awaits (all-free b), open-is c (k .sound .core .codes b)))
 
-  across-start : (journal lent : List ℕ) → Accepted s journal lent → (qs : List Asked) → AcrossTheStop s (bytesOf start) lent journal qs
-  across-start journal lent a qs =
+  across-start : (journal lent : List ℕ) → Accepted s journal lent → (cs : List Call) → AcrossTheStop s (bytesOf start) lent journal cs
+  across-start journal lent a cs =
       let l = left-calls journal lent a in
       record {
         left = l;
-        answers = answers-append s (bytesOf start) (callsOf journal) qs ∙ rw l;
-        states = states-append s (bytesOf start) (callsOf journal) qs ∙ rw l;
-        stored = rw l (ap (λ (t : List ℕ). t ++ journalOn s (leftOn s (bytesOf start) (callsOf journal)) qs) (exact-start journal lent a) ∙ sym (journal-append s (bytesOf start) (callsOf journal) qs));
-        whole = from-start s e (callsOf journal ++ qs);
+        answers = answers-append s (bytesOf start) (singles (callsOf journal)) cs ∙ rw l;
+        states = states-append s (bytesOf start) (singles (callsOf journal)) cs ∙ rw l;
+        stored = rw l (ap (λ (t : List ℕ). t ++ journalOn s (leftOn s (bytesOf start) (singles (callsOf journal))) cs) (exact-start journal lent a) ∙ sym (journal-append s (bytesOf start) (singles (callsOf journal)) cs));
+        whole = from-start s e (singles (callsOf journal) ++ cs);
         unanswered = λ b. rw l (open-after (callsOf journal) b);
       }
 
@@ -182,18 +256,22 @@ module _ (s : List ℕ) (e : sheetPasses s ≡ true) where
 
 module _ (s old : List ℕ) (size : length old ≡ 65) where
   -- for a sheet that passes and every list of calls
-  pub writable : sheetPasses s ≡ true → (qs : List Asked) → Writable s (startLeaves s old) qs
-  writable e qs = rw (started s e old size) (writable-start s e qs)
+  pub writable : sheetPasses s ≡ true → (cs : List Call) → Writable s (startLeaves s old) cs
+  writable e cs = rw (started s e old size) (writable-start s e cs)
 
   -- for a sheet that passes, every list of calls and every cut of its journal
-  pub faithful : sheetPasses s ≡ true → (lent : List ℕ) → length lent ≡ 65 → (qs : List Asked) (c : ℕ) → Faithful s (startLeaves s old) lent qs c
-  faithful e lent h qs c = rw (started s e old size) (faithful-start s e lent h qs c)
+  pub faithful : sheetPasses s ≡ true → (lent : List ℕ) → length lent ≡ 65 → (cs : List Call) (c : ℕ) → Faithful s (startLeaves s old) lent cs c
+  faithful e lent h cs c = rw (started s e old size) (faithful-start s e lent h cs c)
+
+  -- for a sheet that passes, every list of calls and every block after it
+  pub of-a-block : sheetPasses s ≡ true → (lent : List ℕ) → length lent ≡ 65 → (cs : List Call) (lines : List ℕ) → OfABlock s (startLeaves s old) lent cs lines
+  of-a-block e lent h cs lines = rw (started s e old size) (block-start s e cs lines lent h)
 
   -- for everything that restart accepts, and every list of calls after it
-  pub across-the-stop : (journal lent : List ℕ) → restartCall s journal lent ≡ pack 6 0 0 → (qs : List Asked) → AcrossTheStop s (startLeaves s old) lent journal qs
-  across-the-stop journal lent e qs =
+  pub across-the-stop : (journal lent : List ℕ) → restartCall s journal lent ≡ pack 6 0 0 → (cs : List Call) → AcrossTheStop s (startLeaves s old) lent journal cs
+  across-the-stop journal lent e cs =
       let a = accepted-e s journal lent e in
-      rw (started s (a .passes) old size) (across-start s (a .passes) journal lent a qs)
+      rw (started s (a .passes) old size) (across-start s (a .passes) journal lent a cs)
 
   -- for everything that restart accepts
   pub exact : (journal lent : List ℕ) → restartCall s journal lent ≡ pack 6 0 0 → Exact s (startLeaves s old) journal

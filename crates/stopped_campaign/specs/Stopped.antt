@@ -1,10 +1,10 @@
 -- The whole campaign across a stop, on the code's own calls. The sheet s passes, start has been accepted with it and left the state `begun`;
--- then calls of next order and reply were made and their lines stored. restartCall and restartLeaves are what the contract of restart
+-- then calls of next order, reply and block were made and their lines stored. restartCall and restartLeaves are what the contract of restart
 -- says; it was lent the 65 bytes `lent`.
 -- Assumes nothing.
 use mathlib.Core.Path.{_≡_}
 use mathlib.Core.Bool.{Bool, true, _||_}
-use mathlib.Core.List.{List, _++_}
+use mathlib.Core.List.{List, [], _∷_, _++_}
 use Prim.Native.Nat.{ℕ, suc, _+_, _*_, _/_, _≤_}
 use lib.Dec.{eqb}
 use lib.ListN.{length, getD, take}
@@ -17,54 +17,64 @@ use Rattle.guarantee.specs.Counted.{accepts, ordered, answered, tally}
 use Rattle.calls.specs.Calls.{askedCall}
 use Rattle.journal_calls.specs.Journal.{journalOf, callsOf, hasLine}
 use Rattle.journal_calls.specs.Restart.{restartCall, restartLeaves}
+use Rattle.whole_campaign.specs.Calls.{Call, block, singles, gives, leaves}
 use Rattle.whole_campaign.specs.Lists.{answersOn, statesOn, leftOn}
+use Rattle.whole_campaign.specs.Singly.{keptBy, singlyOn, toldOn}
 use Rattle.whole_campaign.specs.Whole.{WholeCampaign}
 
--- the journal that was stored: the lines of the calls and their answers
-unfoldable pub journalOn : List ℕ → List ℕ → List Asked → List ℕ
-journalOn s begun qs = journalOf qs (answersOn s begun qs)
+-- the journal that was stored: the lines of the calls and their answers, of a block those of the replies that it keeps
+unfoldable pub journalOn : List ℕ → List ℕ → List Call → List ℕ
+journalOn s begun cs = journalOf (singlyOn s begun cs) (toldOn s begun cs)
 
 -- its whole lines, without a tail shorter than six bytes
 unfoldable pub wholeLines : List ℕ → List ℕ
 wholeLines journal = take (6 * (length journal / 6)) journal
 
--- WRITABLE. After the calls qs: the call that writes a line takes the letter and the booking of each order, and of each accepted reply.
-pub record Writable (s begun : List ℕ) (qs : List Asked) : Type 0 where
-  pub of-request : kindOf (askedCall s (leftOn s begun qs) nextOrder) ≡ 1 → hasLine Q (placeOf (askedCall s (leftOn s begun qs) nextOrder)) ≡ true
-  pub of-return : kindOf (askedCall s (leftOn s begun qs) nextOrder) ≡ 2 → hasLine U (placeOf (askedCall s (leftOn s begun qs) nextOrder)) ≡ true
-  pub of-reply : (l b : ℕ) → accepts (askedCall s (leftOn s begun qs) (replied l b)) ≡ true → hasLine l b ≡ true
+-- WRITABLE. After the calls cs: the call that writes a line takes the letter and the booking of each order, and of each accepted reply.
+pub record Writable (s begun : List ℕ) (cs : List Call) : Type 0 where
+  pub of-request : kindOf (askedCall s (leftOn s begun cs) nextOrder) ≡ 1 → hasLine Q (placeOf (askedCall s (leftOn s begun cs) nextOrder)) ≡ true
+  pub of-return : kindOf (askedCall s (leftOn s begun cs) nextOrder) ≡ 2 → hasLine U (placeOf (askedCall s (leftOn s begun cs) nextOrder)) ≡ true
+  pub of-reply : (l b : ℕ) → accepts (askedCall s (leftOn s begun cs) (replied l b)) ≡ true → hasLine l b ≡ true
 
--- FAITHFUL. A stop leaves the first c bytes of the journal of the calls qs.
-pub record Faithful (s begun lent : List ℕ) (qs : List Asked) (c : ℕ) : Type 0 where
+-- OF A BLOCK. After the calls cs the block `lines` is given.
+pub record OfABlock (s begun lent : List ℕ) (cs : List Call) (lines : List ℕ) : Type 0 where
+  -- what is to be stored are the block's own first lines, as many as its answer says that it keeps
+  pub stored : journalOn s begun (cs ++ (block lines ∷ [])) ≡ journalOn s begun cs ++ take (6 * keptBy (gives s (leftOn s begun cs) (block lines))) lines
+  -- with them restart is accepted and gives the state after the block
+  pub accepted : restartCall s (journalOn s begun cs ++ take (6 * keptBy (gives s (leftOn s begun cs) (block lines))) lines) lent ≡ pack 6 0 0
+  pub follows : restartLeaves s (journalOn s begun cs ++ take (6 * keptBy (gives s (leftOn s begun cs) (block lines))) lines) lent ≡ leaves s (leftOn s begun cs) (block lines)
+
+-- FAITHFUL. A stop leaves the first c bytes of the journal of the calls cs.
+pub record Faithful (s begun lent : List ℕ) (cs : List Call) (c : ℕ) : Type 0 where
   -- restart accepts them
-  pub accepted : restartCall s (take c (journalOn s begun qs)) lent ≡ pack 6 0 0
+  pub accepted : restartCall s (take c (journalOn s begun cs)) lent ≡ pack 6 0 0
   -- and gives the state after exactly the calls of the whole lines
-  pub follows : restartLeaves s (take c (journalOn s begun qs)) lent ≡ leftOn s begun (callsOf (take c (journalOn s begun qs)))
-  -- which the campaign had at a moment before the stop: whatever came later, without its whole line, counts as not made
-  pub moment : (before later : List Asked) × (qs ≡ before ++ later) × (wholeLines (take c (journalOn s begun qs)) ≡ journalOn s begun before)
-      × (restartLeaves s (take c (journalOn s begun qs)) lent ≡ leftOn s begun before)
+  pub follows : restartLeaves s (take c (journalOn s begun cs)) lent ≡ leftOn s begun (singles (callsOf (take c (journalOn s begun cs))))
+  -- which the campaign, its replies given singly, had at a moment before the stop: whatever came later, without its whole line, counts as not made
+  pub moment : (before later : List Asked) × (singlyOn s begun cs ≡ before ++ later) × (wholeLines (take c (journalOn s begun cs)) ≡ journalOn s begun (singles before))
+      × (restartLeaves s (take c (journalOn s begun cs)) lent ≡ leftOn s begun (singles before))
   -- with the whole journal it is the state after all the calls
-  pub whole : length (journalOn s begun qs) ≤ c → restartLeaves s (take c (journalOn s begun qs)) lent ≡ leftOn s begun qs
+  pub whole : length (journalOn s begun cs) ≤ c → restartLeaves s (take c (journalOn s begun cs)) lent ≡ leftOn s begun cs
 
 -- a booking's byte says that an order is open: requested or returning
 unfoldable pub isOpen : ℕ → Bool
 isOpen code = eqb code requested || eqb code returning
 
--- ACROSS THE STOP. Restart accepts a journal, and the calls qs are made after it.
-pub record AcrossTheStop (s begun lent journal : List ℕ) (qs : List Asked) : Type 0 where
+-- ACROSS THE STOP. Restart accepts a journal, and the calls cs are made after it.
+pub record AcrossTheStop (s begun lent journal : List ℕ) (cs : List Call) : Type 0 where
   -- restart leaves the state that the calls of the journal leave, made from the start
-  pub left : restartLeaves s journal lent ≡ leftOn s begun (callsOf journal)
+  pub left : restartLeaves s journal lent ≡ leftOn s begun (singles (callsOf journal))
   -- so the answers and the states after it are the second part of those of both lists as one
-  pub answers : answersOn s begun (callsOf journal ++ qs) ≡ answersOn s begun (callsOf journal) ++ answersOn s (restartLeaves s journal lent) qs
-  pub states : statesOn s begun (callsOf journal ++ qs) ≡ statesOn s begun (callsOf journal) ++ statesOn s (restartLeaves s journal lent) qs
+  pub answers : answersOn s begun (singles (callsOf journal) ++ cs) ≡ answersOn s begun (singles (callsOf journal)) ++ answersOn s (restartLeaves s journal lent) cs
+  pub states : statesOn s begun (singles (callsOf journal) ++ cs) ≡ statesOn s begun (singles (callsOf journal)) ++ statesOn s (restartLeaves s journal lent) cs
   -- the journal's whole lines, and after them the lines of the calls after the restart, are the journal of both: the next stop is as the first
-  pub stored : wholeLines journal ++ journalOn s (restartLeaves s journal lent) qs ≡ journalOn s begun (callsOf journal ++ qs)
+  pub stored : wholeLines journal ++ journalOn s (restartLeaves s journal lent) cs ≡ journalOn s begun (singles (callsOf journal) ++ cs)
   -- and both as one are a whole campaign, with all that is claimed of one
-  pub whole : WholeCampaign s begun (callsOf journal ++ qs)
+  pub whole : WholeCampaign s begun (singles (callsOf journal) ++ cs)
   -- the orders to send again: of each booking whose byte says so one more request or return was taken than replies accepted, of no other
-  pub unanswered : (b : ℕ) → tally (ordered (suc b)) (callsOf journal) (answersOn s begun (callsOf journal))
-      ≡ tally (answered (suc b)) (callsOf journal) (answersOn s begun (callsOf journal)) + one (isOpen (getD (restartLeaves s journal lent) (suc b) 0))
+  pub unanswered : (b : ℕ) → tally (ordered (suc b)) (callsOf journal) (answersOn s begun (singles (callsOf journal)))
+      ≡ tally (answered (suc b)) (callsOf journal) (answersOn s begun (singles (callsOf journal))) + one (isOpen (getD (restartLeaves s journal lent) (suc b) 0))
 
 -- EXACT. A journal that restart accepts is, but for its tail, the journal of its calls; nothing else is accepted.
 abbrev pub Exact : List ℕ → List ℕ → List ℕ → Type 0
-Exact s begun journal = wholeLines journal ≡ journalOn s begun (callsOf journal)
+Exact s begun journal = wholeLines journal ≡ journalOn s begun (singles (callsOf journal))

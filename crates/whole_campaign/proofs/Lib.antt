@@ -1,4 +1,5 @@
 -- The laws of crate `whole_campaign`.
 pub mod Lists
+pub mod Parts
 pub mod Whole
 pub mod Playing

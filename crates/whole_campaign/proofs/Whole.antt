@@ -1,12 +1,12 @@
 -- The whole campaign: for every sheet that passes and every list of calls, on bytes and in 32 bits.
 -- Assumes nothing.
-use mathlib.Core.Path.{_≡_, refl, sym, ap, _∙_}
+use mathlib.Core.Path.{_≡_, refl, sym, ap, ap₂, _∙_}
 use mathlib.Core.Bool.{true}
-use mathlib.Core.List.{List, [], _∷_}
+use mathlib.Core.List.{List, [], _∷_, map}
 use Prim.Native.Nat.{ℕ}
 use lib.ListN.{length, drop}
 use borrow.Author.Tests.{eqb-true, eq-eqb}
-use Rattle.bounded.proofs.Bools.{and-l, and-r}
+use Rattle.bounded.proofs.Bools.{_&_, and-l, and-r}
 use Rattle.plan.specs.Judging.{isFine}
 use Rattle.lines.specs.Form.{waysPlace}
 use Rattle.sheet.specs.Sheet.{sheetOf}
@@ -21,43 +21,25 @@ use Rattle.verdict.specs.Check.{check, verdictNumber}
 use Rattle.verdict.proofs.Facts.{Passes}
 use Rattle.run.specs.State.{start}
 use Rattle.run.specs.Bytes.{bytesOf}
-use Rattle.guarantee.specs.Machine.{Asked, nextOrder, answer, final}
-use Rattle.guarantee.specs.Calls.{callBits, callBytes, answers, states, left, answersTo, orderAfter}
+use Rattle.run.specs.declared.Run.{Run}
+use Rattle.run.proofs.Facts.{Sound}
+use Rattle.guarantee.specs.Machine.{Asked, nextOrder, answer, machineAnswers, final}
+use Rattle.guarantee.specs.Calls.{callBits, left, answersTo, orderAfter}
 use Rattle.guarantee.specs.Counted.{ends, waySize, waySizes}
 use Rattle.guarantee.specs.Guarantee.{Guarantee}
-use Rattle.guarantee.proofs.Bytes.{call-bits, calls-left}
+use Rattle.guarantee.proofs.Bytes.{same-run, fine as sound-bytes, call-bits, call-bytes, calls-left}
 use Rattle.guarantee.proofs.Start.{start-sound}
 use Rattle.guarantee.proofs.Whole.{travel}
 use Rattle.guarantee.proofs.Plans.{plan-passes, plan-campaign}
-use Rattle.calls.specs.Calls.{networkIn, passes, sheetPasses, startLeaves, askedCall, askedLeaves}
-use Rattle.whole_campaign.specs.Lists.{answersOn, statesOn, leftOn}
+use Rattle.calls.specs.Calls.{networkIn, passes, sheetPasses, startLeaves, askedCall, askedLeaves, inOrder}
+use Rattle.block_calls.specs.Block.{blockIn, blockCall, blockLeaves}
+use Rattle.whole_campaign.specs.Calls.{Call, single, block, singles, gives, leaves, givesBy, leavesBy}
+use Rattle.whole_campaign.specs.Lists.{answersOn, statesOn, leftOn, answersBy, statesBy}
+use Rattle.whole_campaign.specs.Singly.{singlyOn, toldOn}
 use Rattle.whole_campaign.specs.Whole.{WholeCampaign}
+use Rattle.whole_campaign.proofs.Parts.{flat, finalBy, flat-final, singles-final, singles-answers, sound-after, told-calls, told-answers}
 
 module _ (s : List ℕ) (e : sheetPasses s ≡ true) where
-  -- with a sheet that passes, a call is the call on its network
-  call-is : (bs : List ℕ) (q : Asked) → askedCall s bs q ≡ callBits (networkIn s) bs q
-  unfolding askedCall
-  call-is bs q = rw e
-
-  leaves-is : (bs : List ℕ) (q : Asked) → askedLeaves s bs q ≡ callBytes (networkIn s) bs q
-  unfolding askedLeaves
-  leaves-is bs q = rw e
-
-  answers-is : (bs : List ℕ) (qs : List Asked) → answersOn s bs qs ≡ answers (networkIn s) bs qs
-  unfolding answersOn answers
-  answers-is bs [] = refl
-  answers-is bs (q ∷ qs) = rw (call-is bs q, leaves-is bs q, answers-is (callBytes (networkIn s) bs q) qs)
-
-  states-is : (bs : List ℕ) (qs : List Asked) → statesOn s bs qs ≡ states (networkIn s) bs qs
-  unfolding statesOn states
-  states-is bs [] = refl
-  states-is bs (q ∷ qs) = rw (leaves-is bs q, states-is (callBytes (networkIn s) bs q) qs)
-
-  left-is : (bs : List ℕ) (qs : List Asked) → leftOn s bs qs ≡ left (networkIn s) bs qs
-  unfolding leftOn left
-  left-is bs [] = refl
-  left-is bs (q ∷ qs) = rw (leaves-is bs q, left-is (callBytes (networkIn s) bs q) qs)
-
   fine : isFine (sheetOf s .judged) ≡ true
   unfolding sheetPasses
   fine = and-l (isFine (sheetOf s .judged)) _ e
@@ -83,31 +65,103 @@ module _ (s : List ℕ) (e : sheetPasses s ≡ true) where
   unfolding networkIn
   passing = plan-passes (sheetOf s .plan) valid-plan checked
 
+  -- ---- on a sound state the calls on bytes are the plain machine's
+
+  asked-is : (bs : List ℕ) (q : Asked) → askedCall s bs q ≡ callBits (networkIn s) bs q
+  unfolding askedCall
+  asked-is bs q = rw e
+
+  module _ (r : Run) (k : Sound (networkIn s) r) where
+    order : inOrder s (bytesOf r) ≡ true
+    unfolding inOrder
+    order = e & sound-bytes (networkIn s) passing r k
+
+    pub gives-is : (c : Call) → gives s (bytesOf r) c ≡ givesBy (networkIn s) r c
+    unfolding gives givesBy blockCall blockIn
+    gives-is (single q) = asked-is (bytesOf r) q ∙ call-bits (networkIn s) passing r k q
+    gives-is (block lines) = rw (order, same-run r)
+
+    leaves-is : (c : Call) → leaves s (bytesOf r) c ≡ bytesOf (leavesBy (networkIn s) r c)
+    unfolding leaves leavesBy askedLeaves blockLeaves blockIn
+    leaves-is (single q) = rw e (call-bytes (networkIn s) passing r k q)
+    leaves-is (block lines) = rw (order, same-run r)
+
+  then : (r : Run) → Sound (networkIn s) r → (c : Call) → Sound (networkIn s) (leavesBy (networkIn s) r c)
+  then r k c = sound-after (networkIn s) passing r k c
+
+  answers-is : (r : Run) → Sound (networkIn s) r → (cs : List Call) → answersOn s (bytesOf r) cs ≡ answersBy (networkIn s) r cs
+  unfolding answersOn answersBy
+  answers-is r k [] = refl
+  answers-is r k (c ∷ cs) = ap₂ _∷_ (gives-is r k c) (rw (leaves-is r k c) (answers-is (leavesBy (networkIn s) r c) (then r k c) cs))
+
+  states-is : (r : Run) → Sound (networkIn s) r → (cs : List Call) → statesOn s (bytesOf r) cs ≡ map bytesOf (statesBy (networkIn s) r cs)
+  unfolding statesOn statesBy
+  states-is r k [] = refl
+  states-is r k (c ∷ cs) = ap₂ _∷_ (leaves-is r k c) (rw (leaves-is r k c) (states-is (leavesBy (networkIn s) r c) (then r k c) cs))
+
+  left-is : (r : Run) → Sound (networkIn s) r → (cs : List Call) → leftOn s (bytesOf r) cs ≡ bytesOf (finalBy (networkIn s) r cs)
+  unfolding leftOn finalBy
+  left-is r k [] = refl
+  left-is r k (c ∷ cs) = rw (leaves-is r k c) (left-is (leavesBy (networkIn s) r c) (then r k c) cs)
+
+  -- ---- from the start
+
+  begun : Sound (networkIn s) start
+  begun = start-sound (networkIn s) passing
+
+  -- the single calls that a list stands for
+  plain : List Call → List Asked
+  plain cs = flat (networkIn s) start cs
+
+  bits-is : (cs : List Call) → answersOn s (bytesOf start) cs ≡ answersBy (networkIn s) start cs
+  bits-is cs = answers-is start begun cs
+
+  singly-is : (cs : List Call) → singlyOn s (bytesOf start) cs ≡ plain cs
+  unfolding singlyOn plain
+  singly-is cs = rw (bits-is cs) (told-calls (networkIn s) passing start begun cs)
+
+  told-is : (cs : List Call) → toldOn s (bytesOf start) cs ≡ machineAnswers (networkIn s) start (plain cs)
+  unfolding toldOn plain
+  told-is cs = rw (bits-is cs) (told-answers (networkIn s) passing start begun cs)
+
   -- the bytes after a list of calls are those of the plain machine's last state
-  pub left-final : (qs : List Asked) → leftOn s (bytesOf start) qs ≡ bytesOf (final (networkIn s) start qs)
-  left-final qs = left-is (bytesOf start) qs ∙ calls-left (networkIn s) passing start (start-sound (networkIn s) passing) qs
+  pub left-final : (cs : List Call) → leftOn s (bytesOf start) cs ≡ bytesOf (final (networkIn s) start (singlyOn s (bytesOf start) cs))
+  unfolding plain
+  left-final cs = rw (singly-is cs) (left-is start begun cs ∙ ap bytesOf (sym (flat-final (networkIn s) start cs)))
+
+  -- of a list without blocks too
+  pub singles-left : (qs : List Asked) → leftOn s (bytesOf start) (singles qs) ≡ bytesOf (final (networkIn s) start qs)
+  singles-left qs = left-is start begun (singles qs) ∙ ap bytesOf (singles-final (networkIn s) start qs)
+
+  pub singles-bits : (qs : List Asked) → answersOn s (bytesOf start) (singles qs) ≡ machineAnswers (networkIn s) start qs
+  singles-bits qs = bits-is (singles qs) ∙ singles-answers (networkIn s) start qs
 
   -- and the answer to a call after it is the machine's
-  pub answer-is : (qs : List Asked) (q : Asked) → askedCall s (leftOn s (bytesOf start) qs) q ≡ answer (networkIn s) (final (networkIn s) start qs) q
-  answer-is qs q =
-      let k = travel (networkIn s) passing start (start-sound (networkIn s) passing) qs in
-      rw (left-final qs) (call-is (bytesOf (final (networkIn s) start qs)) q ∙ call-bits (networkIn s) passing (final (networkIn s) start qs) (k .sound) q)
+  pub answer-is : (cs : List Call) (q : Asked)
+      → askedCall s (leftOn s (bytesOf start) cs) q ≡ answer (networkIn s) (final (networkIn s) start (singlyOn s (bytesOf start) cs)) q
+  answer-is cs q =
+      let t = final (networkIn s) start (singlyOn s (bytesOf start) cs) in
+      let k = travel (networkIn s) passing start begun (singlyOn s (bytesOf start) cs) in
+      rw (left-final cs) (asked-is (bytesOf t) q ∙ call-bits (networkIn s) passing t (k .sound) q)
 
   pub started : (bs : List ℕ) → length bs ≡ 65 → startLeaves s bs ≡ bytesOf start
   unfolding startLeaves
   started bs h = rw (e, eq-eqb (length bs) 65 h)
 
   -- every list of calls from the first state has the guarantee
-  pub from-start : (qs : List Asked) → WholeCampaign s (bytesOf start) qs
+  pub from-start : (cs : List Call) → WholeCampaign s (bytesOf start) cs
   unfolding answersTo orderAfter networkIn
-  from-start qs =
+  from-start cs =
+      let qs : List Asked = singlyOn s (bytesOf start) cs in
       let g = guaranteed qs in
-      let a : answersOn s (bytesOf start) qs ≡ answersTo (networkIn s) qs = answers-is (bytesOf start) qs in
-      let x : askedCall s (leftOn s (bytesOf start) qs) nextOrder ≡ orderAfter (networkIn s) qs =
-      rw (left-is (bytesOf start) qs) (call-is (left (networkIn s) (bytesOf start) qs) nextOrder) in
+      let a : toldOn s (bytesOf start) cs ≡ answersTo (networkIn s) qs = told-is cs ∙ ap (machineAnswers (networkIn s) start) (sym (singly-is cs)) ∙ sym (g .bits) in
+      let x : askedCall s (leftOn s (bytesOf start) cs) nextOrder ≡ orderAfter (networkIn s) qs =
+      asked-is (leftOn s (bytesOf start) cs) nextOrder ∙ ap (λ (bs : List ℕ). callBits (networkIn s) bs nextOrder) (left-final cs ∙ sym (calls-left (networkIn s) passing start begun qs)) in
       record {
-        bits = a ∙ g .bits;
-        bytes = states-is (bytesOf start) qs ∙ g .bytes;
+        bits = bits-is cs;
+        bytes = states-is start begun cs;
+        same-answers = singles-bits qs ∙ sym (g .bits) ∙ sym a;
+        same-state = singles-left qs ∙ sym (left-final cs);
         demand-3 = rw (a, x) (g .demand-3);
         sizes = listed-sizes;
         kinds = λ b h. rw (sheet-letters s fine b h) (firm-is (sheetOf s .plan) valid-plan b h, repeats-is (sheetOf s .plan) valid-plan b h);
@@ -115,5 +169,5 @@ module _ (s : List ℕ) (e : sheetPasses s ≡ true) where
       }
 
   -- so it has from the state that start leaves, whatever the 65 bytes were before
-  pub whole-campaign : (bs : List ℕ) → length bs ≡ 65 → (qs : List Asked) → WholeCampaign s (startLeaves s bs) qs
-  whole-campaign bs h qs = rw (started bs h) (from-start qs)
+  pub whole-campaign : (bs : List ℕ) → length bs ≡ 65 → (cs : List Call) → WholeCampaign s (startLeaves s bs) cs
+  whole-campaign bs h cs = rw (started bs h) (from-start cs)

@@ -1,4 +1,6 @@
 -- The definitions of crate `whole_campaign`.
+pub mod Calls
 pub mod Lists
+pub mod Singly
 pub mod Whole
 pub mod Play
