@@ -1,6 +1,7 @@
-//! The six calls on bytes, each answered with 32 bits:
+//! The seven calls on bytes, each answered with 32 bits:
 //! kind × 16,777,216 + refusal × 65,536 + place.
 
+use crate::block::{self, Bad, Taken};
 use crate::check::{self, Network};
 use crate::journal::{self, LETTERS, LINE_LENGTH};
 use crate::plan::{self, Refusal};
@@ -61,6 +62,25 @@ fn wrong_line(line: usize) -> Refusal {
     Refusal { number: 12, place: line.min(HIGHEST_LINE) as u32 }
 }
 
+fn block_answer(taken: &Taken) -> u32 {
+    let bad_line = |number| refused(Refusal { number, place: taken.kept as u32 + 1 });
+    match taken.bad {
+        None => pack(ACCEPTED, 0, taken.kept as u32),
+        Some(Bad::Form) => bad_line(1),
+        Some(Bad::Misfit) => bad_line(9),
+    }
+}
+
+/// How many lines a block has kept, by the answer to it, on a sheet that passes.
+pub fn kept_of(answer: u32) -> usize {
+    let place = place_of(answer) as usize;
+    match (kind_of(answer), refusal_of(answer)) {
+        (ACCEPTED, _) => place,
+        (_, 1 | 9) => place.saturating_sub(1),
+        _ => 0,
+    }
+}
+
 fn state_of(bytes: &[u8]) -> Result<State, Refusal> {
     bytes.try_into().map_err(|_| unsound())
 }
@@ -84,7 +104,7 @@ fn order_answer(order: Order) -> u32 {
     }
 }
 
-/// The answer, with the state written back only if nothing was refused.
+/// The answer, with the state written back unless the whole call was refused.
 fn write_back(step: Result<(u32, State), Refusal>, bytes: &mut [u8]) -> u32 {
     match step {
         Ok((answer, state)) => {
@@ -133,6 +153,16 @@ pub fn reply_judged(judged: &Judged, bytes: &mut [u8], letter: u8, booking: u32)
     write_back(step(), bytes)
 }
 
+/// What is kept of a block is written back though a line behind it is bad.
+pub fn reply_block_judged(judged: &Judged, block: &[u8], bytes: &mut [u8]) -> u32 {
+    let step = || {
+        let network = judged.as_ref().map_err(|r| *r)?;
+        let taken = block::take(network, sound_state(network, bytes)?, block);
+        Ok((block_answer(&taken), taken.state))
+    };
+    write_back(step(), bytes)
+}
+
 pub fn restart_judged(judged: &Judged, journal: &[u8], bytes: &mut [u8]) -> u32 {
     let step = || {
         let network = judged.as_ref().map_err(|r| *r)?;
@@ -158,6 +188,10 @@ pub fn next_order(sheet: &[u8], state: &mut [u8]) -> u32 {
 
 pub fn reply(sheet: &[u8], state: &mut [u8], letter: u8, booking: u32) -> u32 {
     reply_judged(&judge(sheet), state, letter, booking)
+}
+
+pub fn reply_block(sheet: &[u8], block: &[u8], state: &mut [u8]) -> u32 {
+    reply_block_judged(&judge(sheet), block, state)
 }
 
 pub fn restart(sheet: &[u8], journal: &[u8], state: &mut [u8]) -> u32 {

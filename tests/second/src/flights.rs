@@ -33,6 +33,16 @@ pub fn chase(kind: char) -> Plan {
     plan_of(&format!("C{kind}PC"), &[(1, 3)], &[&[1, 2, 3], &[1, 4]])
 }
 
+/// Bookings that are all requested at once: one pivot among those that repeat and return; all
+/// that can be lost, in two ways; all kinds but the pivot, with a refuge of repeatables.
+pub fn wide() -> Vec<Plan> {
+    vec![
+        plan_of("DPDDD", &[], &[&[1, 2, 3, 4, 5]]),
+        plan_of("CCDC", &[], &[&[1, 2, 3], &[3, 4]]),
+        plan_of("CDRR", &[], &[&[1, 2, 3, 4], &[3, 4]]),
+    ]
+}
+
 /// Two pivots in a row with choices after each, and a way without either.
 pub fn middle_sized() -> Plan {
     plan_of(
@@ -68,7 +78,7 @@ pub fn named() -> Vec<Flight> {
 }
 
 /// n bookings C in one way, and the first m links that rise.
-fn returnables(n: usize, m: usize) -> Plan {
+pub fn returnables(n: usize, m: usize) -> Plan {
     let pairs = (1..=n).flat_map(|u| (u + 1..=n).map(move |v| (u, v)));
     let everything: Vec<usize> = (1..=n).collect();
     plan_of(&"C".repeat(n), &pairs.take(m).collect::<Vec<_>>(), &[&everything])
@@ -163,7 +173,7 @@ pub struct Unsound {
 }
 
 /// A state from its first bytes.
-fn state_of(bytes: &[u8]) -> State {
+pub fn state_of(bytes: &[u8]) -> State {
     let mut state = [0; STATE_LENGTH];
     state[..bytes.len()].copy_from_slice(bytes);
     state
@@ -223,7 +233,7 @@ pub struct Journal {
 }
 
 /// The lines of words like Q1 or Y12.
-fn lines(words: &str) -> Vec<u8> {
+pub fn lines(words: &str) -> Vec<u8> {
     let line = |word: &str| format!("{}{:>4}\n", &word[..1], &word[1..]);
     words.split_whitespace().flat_map(|word| line(word).into_bytes()).collect()
 }
@@ -319,6 +329,8 @@ fn wrong_journals() -> Vec<Journal> {
         wrong(&chase, "Q1 Q2 Y1 Q3 Y2 N3 Q4", 7),
         wrong(&chase, "Q1 Q2 Y1 Q3 Y2 N3 U1", 7),
         wrong(&plan_of("PR", &[], &[&[1, 2], &[2]]), "Q1 Q2 N1 Q2", 4),
+        wrong(&plan_of("CCC", &[], &[&[1, 2, 3]]), "Q1 Q2 Q3 Y1 Y2 N3 U2", 7),
+        wrong(&plan_of("CCC", &[(1, 2)], &[&[1, 2, 3]]), "Q1 Q3 Y1 Q2 Y2 N3 U1", 7),
     ]
 }
 
@@ -359,7 +371,13 @@ fn misformed_journals() -> Vec<Journal> {
     ];
     let journal =
         |(text, line): (&[u8], u32)| Journal { plan: tanker(), text: text.to_vec(), result: Err(line) };
-    wrong.into_iter().map(journal).collect()
+    wrong.into_iter().map(journal).chain([number_with_a_blank()]).collect()
+}
+
+/// The request of booking 10 is due where a 1 and a 0 stand apart.
+fn number_with_a_blank() -> Journal {
+    let text = [&lines("Q1 Q2 Q3 Q4 Q5 Q6 Q7 Q8 Q9")[..], b"Q 1 0\n"].concat();
+    Journal { plan: returnables(12, 0), text, result: Err(10) }
 }
 
 pub fn journals() -> Vec<Journal> {

@@ -3,6 +3,7 @@
 //!
 //! Bookings and ways are numbered from 1 everywhere, as on the sheet.
 
+pub mod block;
 pub mod calls;
 pub mod check;
 pub mod comparison;
@@ -13,3 +14,4 @@ pub mod generate;
 pub mod journal;
 pub mod plan;
 pub mod run;
+pub mod written_blocks;
