@@ -1,4 +1,4 @@
-//! Wrong versions of the six calls: the comparison must find each.
+//! Wrong versions of the calls but for the block: the comparison must find each.
 
 use second::calls::{self, kind_of, pack, place_of, refusal_of};
 use second::check::{self, Network};
@@ -367,6 +367,10 @@ impl Campaign for Faulty {
             self.after_reply(&network, &before, state, letter, booking as usize);
         }
         answer
+    }
+
+    fn reply_block(&self, sheet: &[u8], block: Option<&[u8]>, state: &mut [u8]) -> u32 {
+        calls::reply_block(sheet, block.unwrap_or(b""), state)
     }
 
     fn restart(&self, sheet: &[u8], journal: &[u8], state: &mut [u8]) -> u32 {

@@ -28,6 +28,15 @@ mod library {
             booking: u32,
         ) -> u32;
         #[cfg(feature = "run")]
+        pub fn campaign_reply_block(
+            sheet: *const u8,
+            sheet_len: usize,
+            block: *const u8,
+            block_len: usize,
+            state: *mut u8,
+            state_len: usize,
+        ) -> u32;
+        #[cfg(feature = "run")]
         pub fn campaign_journal_line(letter: u8, booking: u32, line: *mut u8, line_len: usize) -> u32;
         #[cfg(feature = "run")]
         pub fn campaign_restart(
@@ -43,7 +52,7 @@ mod library {
 
 struct Real;
 
-// Safety of each call: the pointers and lengths are those of live slices.
+// Safety of each call: the pointers and lengths are those of live slices, or null and 0.
 #[cfg(feature = "run")]
 impl Campaign for Real {
     fn check(&self, sheet: &[u8]) -> u32 {
@@ -61,6 +70,15 @@ impl Campaign for Real {
     fn reply(&self, sheet: &[u8], state: &mut [u8], letter: u8, booking: u32) -> u32 {
         let (start, length) = (state.as_mut_ptr(), state.len());
         unsafe { library::campaign_reply(sheet.as_ptr(), sheet.len(), start, length, letter, booking) }
+    }
+
+    fn reply_block(&self, sheet: &[u8], block: Option<&[u8]>, state: &mut [u8]) -> u32 {
+        let (start, length) = (state.as_mut_ptr(), state.len());
+        let (lines, lines_length) =
+            block.map_or((std::ptr::null(), 0), |block| (block.as_ptr(), block.len()));
+        unsafe {
+            library::campaign_reply_block(sheet.as_ptr(), sheet.len(), lines, lines_length, start, length)
+        }
     }
 
     fn restart(&self, sheet: &[u8], journal: &[u8], state: &mut [u8]) -> u32 {
@@ -93,6 +111,10 @@ impl Campaign for Real {
         unreachable!()
     }
 
+    fn reply_block(&self, _: &[u8], _: Option<&[u8]>, _: &mut [u8]) -> u32 {
+        unreachable!()
+    }
+
     fn restart(&self, _: &[u8], _: &[u8], _: &mut [u8]) -> u32 {
         unreachable!()
     }
@@ -112,6 +134,9 @@ struct Options {
 
 /// So many restarts are compared before the rounds, however long it takes.
 const FEWEST_JOURNALS: u64 = 120_000;
+
+/// So many blocks are compared line by line before the rounds.
+const FEWEST_BLOCKS: u64 = 120_000;
 
 const USAGE: &str = "usage: compare [--check-only] [--seconds N] [--rounds N] [--seed N] [--from-round N]";
 
@@ -139,7 +164,7 @@ fn options() -> Option<Options> {
     Some(options)
 }
 
-/// The fixed part, the journals, then rounds until their number or the time is used up.
+/// The fixed part, the journals, the blocks, then rounds until their number or the time is used up.
 fn compare(comparison: &mut Comparison, options: &Options) -> Outcome<u64> {
     let began = Instant::now();
     comparison.fixed_part(options.seed)?;
@@ -147,6 +172,10 @@ fn compare(comparison: &mut Comparison, options: &Options) -> Outcome<u64> {
     if !options.check_only {
         comparison.journals(options.seed, FEWEST_JOURNALS)?;
         println!("with the journals: {:.1} s", began.elapsed().as_secs_f64());
+        comparison.blocks(options.seed, FEWEST_BLOCKS)?;
+        comparison.every_small_block()?;
+        comparison.enough_blocks()?;
+        println!("with the blocks: {:.1} s", began.elapsed().as_secs_f64());
     }
     let time = options.seconds.map(Duration::from_secs);
     let mut made = 0;

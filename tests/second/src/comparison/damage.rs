@@ -1,4 +1,4 @@
-//! Damages to one line of a journal whose lines are all right.
+//! Damages to one line of a journal or a block whose lines are all right.
 
 use crate::generate;
 use crate::journal::{self, LETTERS, LINE_LENGTH};
@@ -15,7 +15,7 @@ pub struct Damage {
 }
 
 impl Damage {
-    /// The journal with this damage.
+    /// The journal or block with this damage.
     pub fn of(&self, journal: &[u8]) -> Vec<u8> {
         let (front, rest) = journal.split_at(self.before * LINE_LENGTH);
         [front, &self.put, &rest[self.taken * LINE_LENGTH..]].concat()
@@ -53,7 +53,7 @@ impl Line<'_> {
             for value in others.into_iter().filter(|&value| value != self.text[at]) {
                 let mut put = self.text.to_vec();
                 put[at] = value;
-                damages.push(self.replaced("journals: a byte changed", put));
+                damages.push(self.replaced("a byte changed", put));
             }
         }
         damages
@@ -65,17 +65,15 @@ impl Line<'_> {
         for &letter in LETTERS.iter().filter(|&&letter| letter != self.letter) {
             let put = journal::write_line(letter, self.booking);
             damages.push(match self.is_order() {
-                true => self.wronged("journals: another letter", put),
-                false => self.replaced("journals: another letter", put),
+                true => self.wronged("another letter", put),
+                false => self.replaced("another letter", put),
             });
         }
         for letter in *b"WEOX" {
-            damages.push(
-                self.wronged("journals: a letter W, E, O or X", journal::write_line(letter, self.booking)),
-            );
+            damages.push(self.wronged("a letter W, E, O or X", journal::write_line(letter, self.booking)));
         }
         for letter in *b"quyngkweox" {
-            damages.push(self.wronged("journals: a small letter", journal::write_line(letter, self.booking)));
+            damages.push(self.wronged("a small letter", journal::write_line(letter, self.booking)));
         }
         damages
     }
@@ -87,8 +85,8 @@ impl Line<'_> {
         let damage = |booking| {
             let put = journal::write_line(self.letter, booking);
             match self.is_order() || !(1..=n).contains(&booking) {
-                true => self.wronged("journals: another booking", put),
-                false => self.replaced("journals: another booking", put),
+                true => self.wronged("another booking", put),
+                false => self.replaced("another booking", put),
             }
         };
         others.map(damage).collect()
@@ -105,10 +103,9 @@ impl Line<'_> {
         let split = format!(" {} {}", b / 10, b % 10);
         let blanks = [format!("{b:<4}"), format!("{b:3} "), format!("{b:<3} "), format!(" {b:<3}"), split];
         let others = ["    ", " 1 1", "1  1", "1 1 ", "  +1", "  -1", "\t  1", " 0 1", "   \n", "  1\n"];
-        let zeros = zeros.iter().filter_map(|columns| self.with_columns("journals: a leading zero", columns));
-        let blanks =
-            blanks.iter().filter_map(|columns| self.with_columns("journals: a number with a blank", columns));
-        let others = others.iter().filter_map(|columns| self.with_columns("journals: no number", columns));
+        let zeros = zeros.iter().filter_map(|columns| self.with_columns("a leading zero", columns));
+        let blanks = blanks.iter().filter_map(|columns| self.with_columns("a number with a blank", columns));
+        let others = others.iter().filter_map(|columns| self.with_columns("no number", columns));
         zeros.chain(blanks).chain(others).collect()
     }
 
@@ -117,9 +114,9 @@ impl Line<'_> {
         let mut damages = Vec::new();
         for at in 0..LINE_LENGTH {
             let (front, rest) = self.text.split_at(at);
-            damages.push(self.replaced("journals: a byte missing", [front, &rest[1..]].concat()));
-            damages.push(self.replaced("journals: a byte too many", [front, b" ", rest].concat()));
-            damages.push(self.replaced("journals: a byte too many", [front, b"\n", rest].concat()));
+            damages.push(self.replaced("a byte missing", [front, &rest[1..]].concat()));
+            damages.push(self.replaced("a byte too many", [front, b" ", rest].concat()));
+            damages.push(self.replaced("a byte too many", [front, b"\n", rest].concat()));
         }
         damages
     }
@@ -128,13 +125,13 @@ impl Line<'_> {
 /// A line doubled, dropped, or changed for its neighbour. Once an order was
 /// given or a reply taken, the same is not due again at once.
 fn moved(journal: &[u8], line: &Line) -> Vec<Damage> {
-    let doubled = line.replaced("journals: a line doubled", line.text.repeat(2));
+    let doubled = line.replaced("a line doubled", line.text.repeat(2));
     let doubled = Damage { wrong: Some(line.before + 2), ..doubled };
-    let mut damages = vec![doubled, line.replaced("journals: a line dropped", Vec::new())];
+    let mut damages = vec![doubled, line.replaced("a line dropped", Vec::new())];
     let after = &journal[(line.before + 1) * LINE_LENGTH..];
     if after.len() >= LINE_LENGTH {
         let put = [&after[..LINE_LENGTH], line.text].concat();
-        damages.push(Damage { taken: 2, ..line.replaced("journals: a line swapped with the next", put) });
+        damages.push(Damage { taken: 2, ..line.replaced("a line swapped with the next", put) });
     }
     damages
 }

@@ -1,8 +1,13 @@
-//! Every plan of one or two bookings, of all kinds, with every state of it:
-//! few enough to leave none out.
+//! Every plan of one or two bookings, of all kinds, with every state of it, and
+//! every block of one or two replies: few enough to leave none out.
 
+use super::blocks::BEHIND;
+use super::lent::Lent;
 use super::{Call, Case, Comparison, Outcome};
+use crate::flights;
+use crate::journal;
 use crate::plan::{self, Kind, Plan};
+use crate::run::{self, State};
 
 const KINDS: [Kind; 4] = [Kind::Returnable, Kind::Pivot, Kind::Repeatable, Kind::RepeatableReturnable];
 
@@ -16,7 +21,7 @@ fn choices<T: Clone>(all: &[T]) -> Vec<Vec<T>> {
 fn lists<T: Clone>(all: &[T], length: usize) -> Vec<Vec<T>> {
     let longer = |list: &Vec<T>| {
         let list = list.clone();
-        all.iter().map(move |one| [&list[..], &[one.clone()]].concat()).collect::<Vec<_>>()
+        all.iter().map(move |one| [&list[..], std::slice::from_ref(one)].concat()).collect::<Vec<_>>()
     };
     (0..length).fold(vec![Vec::new()], |shorter, _| shorter.iter().flat_map(longer).collect())
 }
@@ -42,6 +47,25 @@ fn plans(n: usize) -> Vec<Plan> {
     plans
 }
 
+/// Every way and every code, and one past each.
+fn states(plan: &Plan) -> Vec<State> {
+    let mut states = Vec::new();
+    for way in 0..=plan.ways.len() as u8 + 1 {
+        for codes in lists(&[0, 1, 2, 3, 4, 5], plan.count()) {
+            states.push(flights::state_of(&[&[way], &codes[..]].concat()));
+        }
+    }
+    states
+}
+
+/// All blocks of up to n replies to n bookings.
+fn blocks(n: usize) -> Vec<Lent> {
+    let replies: Vec<Vec<u8>> =
+        (1..=n).flat_map(|b| b"YNGK".map(|letter| journal::write_line(letter, b))).collect();
+    let blocks = (0..=n).flat_map(|length| lists(&replies, length));
+    blocks.map(|block| Lent::with_rest(&block.concat(), BEHIND)).collect()
+}
+
 impl Comparison<'_> {
     pub fn every_small_plan(&mut self) -> Outcome {
         for plan in [plans(1), plans(2)].concat() {
@@ -56,14 +80,27 @@ impl Comparison<'_> {
         Ok(())
     }
 
-    /// Every way and every code, and one past each.
     fn every_state(&mut self, case: &Case, plan: &Plan) -> Outcome {
-        for way in 0..=plan.ways.len() as u8 + 1 {
-            for codes in lists(&[0, 1, 2, 3, 4, 5], plan.count()) {
-                let mut state = [&[way], &codes[..]].concat();
-                state.resize(65, 0);
-                self.tally.event("states of plans of one or two bookings");
-                self.every_call(case, plan, &state)?;
+        for state in states(plan) {
+            self.tally.event("states of plans of one or two bookings");
+            self.every_call(case, plan, &state)?;
+        }
+        Ok(())
+    }
+
+    /// From every sound state of these plans, every block of replies to their
+    /// bookings, of no more lines than can fit.
+    pub fn every_small_block(&mut self) -> Outcome {
+        for plan in [plans(1), plans(2)].concat() {
+            let case = Case::new(plan::write(&plan).as_bytes());
+            let Some(network) = case.network() else { continue };
+            self.part = format!("every block on every plan of {} bookings", plan.count());
+            let blocks = blocks(plan.count());
+            for state in states(&plan).into_iter().filter(|state| run::is_sound(network, state)) {
+                for block in &blocks {
+                    self.tally.event("blocks: all of one or two lines");
+                    self.block_from(&case, &state, block)?;
+                }
             }
         }
         Ok(())

@@ -17,10 +17,10 @@ use crate::run::{self, Order, State};
 /// Behind a journal stands what could be taken for more of it.
 const BEHIND: &[u8] = b"Q   1\nY   1\n";
 
-const RIGHT: u32 = 6 << 24;
+pub const RIGHT: u32 = 6 << 24;
 const OF_ANOTHER: &str = "journals: of some other sheet";
 
-fn any_state(dice: &mut Dice) -> Vec<u8> {
+pub fn any_state(dice: &mut Dice) -> Vec<u8> {
     (0..65).map(|_| dice.byte()).collect()
 }
 
@@ -76,12 +76,12 @@ fn refused_again(lines: usize) -> Vec<u8> {
     b"Q   1\nN   1\n".iter().copied().cycle().take(lines * LINE_LENGTH).collect()
 }
 
-fn case_of(plan: &Plan) -> Case {
+pub fn case_of(plan: &Plan) -> Case {
     Case::new(plan::write(plan).as_bytes())
 }
 
 /// The named sheets that pass.
-fn passing() -> Vec<Case> {
+pub fn passing() -> Vec<Case> {
     let cases = flights::named().into_iter().map(|flight| Case::new(&flight.sheet));
     cases.filter(|case| case.network().is_some()).collect()
 }
@@ -110,7 +110,7 @@ impl Comparison<'_> {
     }
 
     /// Restarts with a journal from which this must follow.
-    fn expect(&mut self, case: &Case, journal: &[u8], before: &[u8], due: (u32, &[u8])) -> Outcome {
+    pub fn expect(&mut self, case: &Case, journal: &[u8], before: &[u8], due: (u32, &[u8])) -> Outcome {
         let mut state = before.to_vec();
         let answer = self.restart(case, &Lent::with_rest(journal, BEHIND), &mut state)?;
         if (answer, &state[..]) == due {
@@ -205,7 +205,7 @@ impl Comparison<'_> {
     }
 
     /// The one with the most lines among some, but none of very many.
-    fn longest_campaign(&mut self, case: &Case, tried: usize, dice: &mut Dice) -> Outcome<Record> {
+    pub fn longest_campaign(&mut self, case: &Case, tried: usize, dice: &mut Dice) -> Outcome<Record> {
         let mut longest = self.campaign(case, dice)?;
         for _ in 1..tried {
             let record = self.campaign(case, dice)?;
@@ -255,13 +255,7 @@ impl Comparison<'_> {
 
     /// A journal of which nothing is known beforehand; if it is right, some
     /// calls follow.
-    fn other_journal(
-        &mut self,
-        case: &Case,
-        name: &'static str,
-        journal: &[u8],
-        dice: &mut Dice,
-    ) -> Outcome<u32> {
+    fn other_journal(&mut self, case: &Case, name: &str, journal: &[u8], dice: &mut Dice) -> Outcome<u32> {
         self.tally.event(name);
         let mut state = any_state(dice);
         let answer = self.restart(case, &Lent::with_rest(journal, BEHIND), &mut state)?;
@@ -274,7 +268,8 @@ impl Comparison<'_> {
 
     /// No line before the damage is wrong; some damages are wrong for sure.
     fn damaged(&mut self, case: &Case, record: &Record, damage: &Damage, dice: &mut Dice) -> Outcome {
-        let answer = self.other_journal(case, damage.name, &damage.of(&record.journal), dice)?;
+        let name = format!("journals: {}", damage.name);
+        let answer = self.other_journal(case, &name, &damage.of(&record.journal), dice)?;
         let line = place_of(answer) as usize;
         let as_due = match damage.wrong {
             Some(wrong) => refusal_of(answer) == 12 && line == wrong,
@@ -283,7 +278,7 @@ impl Comparison<'_> {
         if as_due {
             return Ok(());
         }
-        let told = format!("{} after line {}: not the line that is wrong\n", damage.name, damage.before);
+        let told = format!("{name} after line {}: not the line that is wrong\n", damage.before);
         Err(self.report(case, &any_state(dice), &told))
     }
 

@@ -1,6 +1,7 @@
-//! The comparison of a first version of the six calls with this one: the
+//! The comparison of a first version of the seven calls with this one: the
 //! same 32 bits, the same bytes of state, and no other byte changed.
 
+pub mod blocks;
 mod damage;
 mod every;
 pub mod journals;
@@ -8,6 +9,7 @@ mod ledger;
 mod lent;
 mod lines;
 mod record;
+mod replies;
 pub mod sheets;
 mod tally;
 pub mod walks;
@@ -27,6 +29,8 @@ pub trait Campaign {
     fn start(&self, sheet: &[u8], state: &mut [u8]) -> u32;
     fn next_order(&self, sheet: &[u8], state: &mut [u8]) -> u32;
     fn reply(&self, sheet: &[u8], state: &mut [u8], letter: u8, booking: u32) -> u32;
+    /// No block at all is lent as null and 0.
+    fn reply_block(&self, sheet: &[u8], block: Option<&[u8]>, state: &mut [u8]) -> u32;
     fn restart(&self, sheet: &[u8], journal: &[u8], state: &mut [u8]) -> u32;
     fn journal_line(&self, letter: u8, booking: u32, line: &mut [u8]) -> u32;
 }
@@ -41,6 +45,12 @@ pub enum Call {
     Start,
     NextOrder,
     Reply(u8, u32),
+}
+
+/// A call that was made, for the report.
+enum Made {
+    Call(Call),
+    Block(Vec<u8>),
 }
 
 /// A sheet to compare with, and what the second version makes of it.
@@ -72,7 +82,7 @@ pub struct Comparison<'a> {
     /// What is being compared, for the report.
     pub part: String,
     /// The calls since the last check, start or restart.
-    history: Vec<(Call, u32)>,
+    history: Vec<(Made, u32)>,
     /// The journal of the last restart, if no check or start came after it.
     journal: Option<Vec<u8>>,
 }
@@ -100,7 +110,7 @@ impl<'a> Comparison<'a> {
         if call == Call::Check || call == Call::Start {
             self.begin(None);
         }
-        self.history.push((call, answer));
+        self.history.push((Made::Call(call), answer));
         let whole = lent.guards_are_whole() && case.sheet.is_whole();
         let first = Said { answer, state: lent.bytes() };
         self.settle(case, state, first, Said { answer: expected, state: &expected_state }, whole)
@@ -149,7 +159,7 @@ impl<'a> Comparison<'a> {
             shown_state(second.state)
         );
         if !whole {
-            told += "a byte that was not lent, or of the sheet or the journal, has changed\n";
+            told += "a byte that was not lent, or of the sheet, the block or the journal, has changed\n";
         }
         Err(self.report(case, state, &told))
     }
@@ -178,8 +188,8 @@ impl<'a> Comparison<'a> {
         if !self.history.is_empty() {
             text += "calls since check, start or restart, the last one being the call in question:\n";
         }
-        for (call, answer) in &self.history[recent..] {
-            text += &format!("  {}: {}\n", shown_call(*call), shown_answer(*answer));
+        for (made, answer) in &self.history[recent..] {
+            text += &format!("  {}: {}\n", shown_made(made), shown_answer(*answer));
         }
         text + told
     }
@@ -193,8 +203,10 @@ impl<'a> Comparison<'a> {
         let mut state: Vec<u8> = (0..65).map(|_| dice.below(5) as u8).collect();
         self.call(case, &mut state, Call::NextOrder)?;
         self.call(case, &mut state, Call::Reply(dice.pick(b"YNGK"), dice.below(70) as u32))?;
+        self.any_block(case, &state, dice)?;
         self.call(case, &mut state, Call::Start)?;
         self.call(case, &mut state, Call::NextOrder)?;
+        self.any_block(case, &state, dice)?;
         self.call(case, &mut state, Call::Reply(b'Y', 1))?;
         Ok(())
     }
@@ -215,6 +227,7 @@ impl<'a> Comparison<'a> {
         if case.network().is_some() && !self.check_only {
             let record = self.campaign(&case, &mut dice)?;
             self.some_journals(&case, &record, &mut dice)?;
+            self.some_blocks(&case, &record, &mut dice)?;
             for _ in 0..2 {
                 self.campaign(&case, &mut dice)?;
             }
@@ -249,6 +262,13 @@ fn shown_call(call: Call) -> String {
     match call {
         Call::Reply(letter, booking) => format!("reply {} {booking}", letter.escape_ascii()),
         _ => name_of(call).to_string(),
+    }
+}
+
+fn shown_made(made: &Made) -> String {
+    match made {
+        Made::Call(call) => shown_call(*call),
+        Made::Block(block) => format!("reply block \"{}\"", block.escape_ascii()),
     }
 }
 

@@ -131,7 +131,7 @@ impl Comparison<'_> {
     }
 
     /// Takes orders until a wait or an end, which it gives.
-    fn orders(&mut self, case: &Case, state: &mut Vec<u8>) -> Outcome<u32> {
+    pub fn orders(&mut self, case: &Case, state: &mut Vec<u8>) -> Outcome<u32> {
         loop {
             let answer = self.call(case, state, Call::NextOrder)?;
             if ![calls::REQUEST, calls::RETURN].contains(&calls::kind_of(answer)) {

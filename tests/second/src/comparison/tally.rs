@@ -1,5 +1,6 @@
 //! Counts of what was compared.
 
+use super::Outcome;
 use crate::calls::{kind_of, refusal_of};
 use crate::check::Network;
 use crate::plan::Kind;
@@ -12,7 +13,7 @@ pub struct Tally {
     kinds: BTreeMap<u32, u64>,
     refusals: BTreeMap<u32, u64>,
     sentences: BTreeMap<&'static str, u64>,
-    events: BTreeMap<&'static str, u64>,
+    events: BTreeMap<String, u64>,
 }
 
 impl Tally {
@@ -47,12 +48,30 @@ impl Tally {
         }
     }
 
-    pub fn event(&mut self, name: &'static str) {
+    pub fn event(&mut self, name: &str) {
         self.events_add(name, 1);
     }
 
-    fn events_add(&mut self, name: &'static str, count: u64) {
-        *self.events.entry(name).or_default() += count;
+    pub fn events_add(&mut self, name: &str, count: u64) {
+        match self.events.get_mut(name) {
+            Some(counted) => *counted += count,
+            None => drop(self.events.insert(name.to_string(), count)),
+        }
+    }
+
+    pub fn count_of_events(&self, name: &str) -> u64 {
+        self.events.get(name).copied().unwrap_or(0)
+    }
+
+    /// Whether each of these was met so often; tells the first that was not.
+    pub fn demand(&self, fewest: &[(&str, u64)]) -> Outcome {
+        for (name, fewest) in fewest {
+            let met = self.count_of_events(name);
+            if met < *fewest {
+                return Err(format!("TOO FEW: {name}: {met}, but {fewest} are due\n"));
+            }
+        }
+        Ok(())
     }
 
     /// A state that breaks this sentence of soundness alone.
@@ -91,5 +110,21 @@ impl fmt::Display for Tally {
             writeln!(out, "states that break only \"{name}\": {count}")?;
         }
         Ok(())
+    }
+}
+
+#[cfg(test)]
+mod tests {
+    use super::*;
+
+    #[test]
+    fn too_few_are_told() {
+        let mut tally = Tally::default();
+        assert!(tally.demand(&[("one", 0)]).is_ok());
+        assert!(tally.demand(&[("one", 1)]).is_err());
+        tally.event("one");
+        tally.events_add("two", 3);
+        assert!(tally.demand(&[("one", 1), ("two", 3)]).is_ok());
+        assert!(tally.demand(&[("one", 1), ("two", 4)]).unwrap_err().contains("two: 3"));
     }
 }

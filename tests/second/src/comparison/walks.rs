@@ -1,13 +1,20 @@
 //! Random campaigns: next orders and replies in any mixture, with probes of
 //! states nearby.
 
+use super::blocks::BEHIND;
+use super::journals::{any_state, RIGHT};
 use super::ledger::Ledger;
+use super::lent::Lent;
 use super::record::{line_of, Record};
+use super::replies::{any_line, odd_line, open_orders};
 use super::{Call, Case, Comparison, Outcome};
-use crate::calls::{kind_of, ACCEPTED, CALLED_OFF, FLOWN};
+use crate::calls::{kept_of, kind_of, pack, ACCEPTED, CALLED_OFF, FLOWN, REQUEST, RETURN};
 use crate::dice::Dice;
+use crate::journal::{self, LINE_LENGTH};
 use crate::plan::{Kind, Plan};
-use crate::run::{self, State, REQUESTED, RETURNING};
+use crate::run::{self, State, RETURNING};
+
+const ONLY_BLOCKS: usize = 100;
 
 /// How the desks and the dispatcher of one campaign behave, in percent.
 struct Manner {
@@ -17,6 +24,8 @@ struct Manner {
     ask: usize,
     misfit: usize,
     probe: usize,
+    /// Replies in a block; with 100 none comes alone.
+    block: usize,
 }
 
 fn manner(dice: &mut Dice) -> Manner {
@@ -27,6 +36,7 @@ fn manner(dice: &mut Dice) -> Manner {
         ask: dice.pick(&[30, 50, 70, 90]),
         misfit: dice.pick(&[0, 10, 30]),
         probe: dice.pick(&[0, 10, 30]),
+        block: dice.pick(&[0, 0, 10, 40, ONLY_BLOCKS]),
     }
 }
 
@@ -68,8 +78,7 @@ fn any_reply(dice: &mut Dice, n: usize) -> Call {
 }
 
 fn fitting_reply(dice: &mut Dice, plan: &Plan, state: &[u8], manner: &Manner) -> Option<Call> {
-    let waiting = |b: &usize| state[*b] == REQUESTED || state[*b] == RETURNING;
-    let waiting: Vec<usize> = plan.bookings().filter(waiting).collect();
+    let waiting = open_orders(plan, state);
     if waiting.is_empty() {
         return None;
     }
@@ -79,6 +88,9 @@ fn fitting_reply(dice: &mut Dice, plan: &Plan, state: &[u8], manner: &Manner) ->
 
 impl Manner {
     fn next_call(&self, dice: &mut Dice, plan: &Plan, state: &[u8]) -> Call {
+        if self.block == ONLY_BLOCKS {
+            return Call::NextOrder;
+        }
         if dice.percent(self.misfit) {
             return any_reply(dice, plan.count());
         }
@@ -86,6 +98,21 @@ impl Manner {
             return Call::NextOrder;
         }
         fitting_reply(dice, plan, state, self).unwrap_or(Call::NextOrder)
+    }
+
+    /// Replies to some of the open orders; now and then with a bad line.
+    fn block(&self, dice: &mut Dice, plan: &Plan, state: &[u8]) -> Vec<u8> {
+        let mut open = open_orders(plan, state);
+        dice.shuffle(&mut open);
+        open.truncate(dice.between(0, open.len()));
+        let line = |b: usize| journal::write_line(self.letter(dice, state[b], plan.kind(b)), b);
+        let mut lines: Vec<Vec<u8>> = open.into_iter().map(line).collect();
+        if dice.percent(self.misfit) {
+            let n = plan.count();
+            let bad = if dice.percent(50) { any_line(dice, n) } else { odd_line(dice, n) };
+            lines.insert(dice.between(0, lines.len()), bad);
+        }
+        lines.concat()
     }
 }
 
@@ -129,10 +156,20 @@ impl Comparison<'_> {
             if dice.percent(manner.probe) {
                 self.probe(case, &walk.state, dice)?;
             }
+            if dice.percent(manner.block) {
+                if dice.percent(50) {
+                    self.all_orders(case, walk)?;
+                }
+                let block = manner.block(dice, plan, &walk.state);
+                self.block_step(case, walk, &block, dice)?;
+            }
             let call = manner.next_call(dice, plan, &walk.state);
             let answer = self.step(case, walk, call)?;
             if is_end(call, answer) && calls_after_end == 0 {
                 self.note_end(answer, walk.state[0]);
+                if manner.block == ONLY_BLOCKS {
+                    self.tally.event("campaigns to the end with replies in blocks alone");
+                }
             }
             if calls_after_end > 0 || is_end(call, answer) {
                 calls_after_end += 1;
@@ -158,6 +195,36 @@ impl Comparison<'_> {
         self.note_switch(way, walk.state[0]);
         self.note_both(plan, call, answer);
         Ok(answer)
+    }
+
+    /// Each order that needs no further reply.
+    fn all_orders(&mut self, case: &Case, walk: &mut Walk) -> Outcome {
+        while [REQUEST, RETURN].contains(&kind_of(self.step(case, walk, Call::NextOrder)?)) {}
+        Ok(())
+    }
+
+    /// A block, entered like the replies that it keeps: their lines are the
+    /// block's own. From the journal with them the same state must follow.
+    fn block_step(&mut self, case: &Case, walk: &mut Walk, block: &[u8], dice: &mut Dice) -> Outcome {
+        let plan = &case.network().expect("a sheet that passes").plan;
+        let way = walk.state[0];
+        let singly = self.reply_block(case, &Lent::with_rest(block, BEHIND), &mut walk.state)?;
+        let kept = &block[..kept_of(singly.answer) * LINE_LENGTH];
+        for (line, state) in kept.chunks(LINE_LENGTH).zip(&singly.states[1..]) {
+            let (letter, booking) = journal::read_line(line).expect("a line that was kept");
+            let made = (Call::Reply(letter, booking as u32), pack(ACCEPTED, 0, booking as u32));
+            let entered = walk.ledger.enter(plan, made.0, made.1);
+            entered.map_err(|told| self.report(case, &walk.state, &told))?;
+            walk.record.add(made, line, state);
+            self.note_both(plan, made.0, made.1);
+        }
+        self.tally.event("blocks: handed in by a campaign");
+        self.note_switch(way, walk.state[0]);
+        if kept.is_empty() || dice.percent(70) {
+            return Ok(());
+        }
+        self.tally.event("blocks: restarted from their lines");
+        self.expect(case, &walk.record.journal, &any_state(dice), (RIGHT, &walk.state))
     }
 
     fn note_switch(&mut self, before: u8, after: u8) {
@@ -217,7 +284,7 @@ impl Comparison<'_> {
     pub fn some_calls(&mut self, case: &Case, from: &[u8], dice: &mut Dice) -> Outcome {
         let plan = &case.network().expect("a sheet that passes").plan;
         let mut state = from.to_vec();
-        let manner = manner(dice);
+        let manner = Manner { block: 0, ..manner(dice) };
         for _ in 0..6 {
             let call = manner.next_call(dice, plan, &state);
             let answer = self.call(case, &mut state, call)?;
@@ -230,7 +297,7 @@ impl Comparison<'_> {
 }
 
 /// A state with some bytes changed, mostly into other good codes.
-fn changed(dice: &mut Dice, plan: &Plan, mut state: State) -> State {
+pub fn changed(dice: &mut Dice, plan: &Plan, mut state: State) -> State {
     let (n, a) = (plan.count(), plan.ways.len());
     for _ in 0..dice.pick(&[1, 1, 2, 3, 6]) {
         match dice.below(10) {
