@@ -1,5 +1,6 @@
 //! The calls on lent bytes, on sets of 64 bits: what the library is measured against.
 
+use crate::block;
 use crate::check::{self, Network};
 use crate::journal;
 use crate::plan;
@@ -86,6 +87,20 @@ pub fn reply(sheet: &[u8], state: &mut [u8], letter: u8, booking: u32) -> u32 {
         let change = run.reply(&network, letter, booking).ok_or(misfit)?;
         write(&change, bytes);
         Ok(pack(6, 0, booking))
+    };
+    answer(step())
+}
+
+/// The replies before a bad line are written too.
+#[inline(never)]
+pub fn reply_block(sheet: &[u8], block: &[u8], state: &mut [u8]) -> u32 {
+    let mut step = || {
+        let network = judge(sheet)?;
+        let bytes = lent(state)?;
+        let mut run = Run::of_bytes(&network, bytes).ok_or(UNSOUND)?;
+        let taken = block::take(&mut run, &network, block);
+        *bytes = run.bytes();
+        Ok(pack(6, 0, taken?))
     };
     answer(step())
 }

@@ -12,7 +12,7 @@ pub struct Campaign {
     pub journal: Vec<u8>,
 }
 
-fn line(letter: u8, booking: u32) -> Vec<u8> {
+pub fn line(letter: u8, booking: u32) -> Vec<u8> {
     format!("{}{booking:4}\n", letter as char).into_bytes()
 }
 

@@ -1,5 +1,6 @@
 //! Both versions must give equal answers and leave equal states, or no time means anything.
 
+use crate::blocks::{self, block_of, Wide};
 use crate::campaign::{record, Dice, State};
 use crate::journal::LINE_LENGTH;
 use crate::sheets::{Endless, Sheet};
@@ -32,6 +33,9 @@ impl Compared {
                 library::reply(sheet, &mut here, letter, booking),
                 calls::reply(sheet, &mut there, letter, booking),
             ),
+            Step::Block(block) => {
+                (library::reply_block(sheet, block, &mut here), calls::reply_block(sheet, block, &mut there))
+            }
             Step::Restart(journal) => {
                 (library::restart(sheet, journal, &mut here), calls::restart(sheet, journal, &mut there))
             }
@@ -49,6 +53,7 @@ enum Step<'a> {
     Start,
     Order,
     Reply(u8, u32),
+    Block(&'a [u8]),
     Restart(&'a [u8]),
 }
 
@@ -66,6 +71,7 @@ fn damaged_sheets(compared: &mut Compared, sheet: &[u8], dice: &mut Dice, times:
         compared.check(&bytes);
         compared.step(&bytes, &[0; 65], "start, damaged sheet", Step::Start);
         compared.step(&bytes, &[0; 65], "restart, damaged sheet", Step::Restart(b"Q   1\nY   1\n"));
+        compared.step(&bytes, &[1; 65], "block, damaged sheet", Step::Block(b"Y   1\nN   2\n"));
     }
 }
 
@@ -80,7 +86,7 @@ fn damaged(state: &State, dice: &mut Dice) -> Vec<u8> {
     bytes
 }
 
-/// A journal cut at a byte, with a byte changed, or with a line doubled, dropped or another.
+/// A journal or a block cut at a byte, with a byte changed, or with a line doubled, dropped or another.
 fn damaged_journal(journal: &[u8], dice: &mut Dice) -> Vec<u8> {
     let mut bytes = journal.to_vec();
     if bytes.is_empty() {
@@ -106,6 +112,23 @@ fn restarts(compared: &mut Compared, sheet: &[u8], journal: &[u8], dice: &mut Di
     }
 }
 
+/// A reply to each open order, in any order, and such a block damaged.
+fn some_blocks(compared: &mut Compared, sheet: &[u8], state: &State, dice: &mut Dice) {
+    let mut replies = Vec::new();
+    for booking in (1..state.len()).filter(|&b| state[b] == 1 || state[b] == 4) {
+        let letters = if state[booking] == 1 { b"YN" } else { b"GK" };
+        let reply = (letters[dice.below(2)], booking as u32);
+        replies.insert(dice.below(replies.len() + 1), reply);
+    }
+    let block = block_of(&replies);
+    compared.step(sheet, state, "block", Step::Block(&block));
+    for _ in 0..4 {
+        let damaged = damaged_journal(&block, dice);
+        compared.step(sheet, state, "block, damaged", Step::Block(&damaged));
+    }
+    compared.step(sheet, &damaged(state, dice), "block, damaged state", Step::Block(&block));
+}
+
 fn campaigns(compared: &mut Compared, sheet: &[u8], dice: &mut Dice, most: usize) {
     let before = compared.calls;
     for seed in 0.. {
@@ -119,6 +142,7 @@ fn campaigns(compared: &mut Compared, sheet: &[u8], dice: &mut Dice, most: usize
             compared.step(sheet, &state, "reply", Step::Reply(letter, booking));
             let other = Step::Reply(b"YNGK?"[dice.below(5)], dice.below(70) as u32);
             compared.step(sheet, &state, "any reply", other);
+            some_blocks(compared, sheet, &state, dice);
         }
         compared.step(sheet, &[9; 65], "start", Step::Start);
         restarts(compared, sheet, &campaign.journal, dice);
@@ -135,7 +159,7 @@ pub fn compare(passing: &[Sheet], others: &[Sheet]) -> usize {
     for sheet in passing {
         let large = sheet.bytes.len() > 1000;
         damaged_sheets(&mut compared, &sheet.bytes, &mut dice, if large { 100 } else { 3000 });
-        campaigns(&mut compared, &sheet.bytes, &mut dice, if large { 400 } else { 3000 });
+        campaigns(&mut compared, &sheet.bytes, &mut dice, if large { 1000 } else { 6000 });
     }
     for sheet in others {
         damaged_sheets(&mut compared, &sheet.bytes, &mut dice, 10);
@@ -154,6 +178,26 @@ pub fn compare_restarts(sheets: &[Endless]) -> usize {
             compared.same(library::restart(sheet, &journal, &mut [9; 65]), right, "right journal", sheet);
             restarts(&mut compared, sheet, &journal, &mut dice);
         }
+    }
+    compared.calls
+}
+
+/// The same for the blocks that are measured: each is taken whole, and leaves what its replies
+/// leave one by one.
+pub fn compare_blocks(wide: &[Wide]) -> usize {
+    let mut compared = Compared { calls: 0 };
+    let mut dice = Dice(1);
+    for wide in wide {
+        let sheet = &wide.sheet.bytes;
+        let (mut whole, mut singly) = (wide.state, wide.state);
+        let taken = calls::pack(6, 0, wide.replies.len() as u32);
+        compared.same(library::reply_block(sheet, &wide.block, &mut whole), taken, "whole block", sheet);
+        blocks::singly(library::reply, sheet, &mut singly, &wide.replies);
+        if whole != singly {
+            eprintln!("bench: block and single replies: states differ\n{whole:?}\n{singly:?}");
+            std::process::exit(1);
+        }
+        (0..20).for_each(|_| some_blocks(&mut compared, sheet, &wide.state, &mut dice));
     }
     compared.calls
 }

@@ -12,6 +12,14 @@ extern "C" {
         letter: u8,
         booking: u32,
     ) -> u32;
+    fn campaign_reply_block(
+        sheet: *const u8,
+        sheet_len: usize,
+        block: *const u8,
+        block_len: usize,
+        state: *mut u8,
+        state_len: usize,
+    ) -> u32;
     fn campaign_restart(
         sheet: *const u8,
         sheet_len: usize,
@@ -38,6 +46,13 @@ pub fn next_order(sheet: &[u8], state: &mut [u8]) -> u32 {
 
 pub fn reply(sheet: &[u8], state: &mut [u8], letter: u8, booking: u32) -> u32 {
     unsafe { campaign_reply(sheet.as_ptr(), sheet.len(), state.as_mut_ptr(), state.len(), letter, booking) }
+}
+
+pub fn reply_block(sheet: &[u8], block: &[u8], state: &mut [u8]) -> u32 {
+    let (lines, length) = (block.as_ptr(), block.len());
+    unsafe {
+        campaign_reply_block(sheet.as_ptr(), sheet.len(), lines, length, state.as_mut_ptr(), state.len())
+    }
 }
 
 pub fn restart(sheet: &[u8], journal: &[u8], state: &mut [u8]) -> u32 {

@@ -2,6 +2,8 @@
 //! prints the figures as Markdown.
 //! usage: bench EXAMPLES   (the folder of the example sheets)
 
+mod block;
+mod blocks;
 mod calls;
 mod campaign;
 mod check;
@@ -15,6 +17,7 @@ mod restart;
 mod run;
 mod sheets;
 
+use blocks::Wide;
 use campaign::{record, Campaign, State};
 use measure::{measure, stack, Pass, Times};
 use sheets::Sheet;
@@ -137,7 +140,7 @@ fn calls_on<'a>(
     sheet: &'a [u8],
     state: State,
     reply: (State, u8, u32),
-    journal: &'a [u8],
+    (block, journal): (&'a [u8], &'a [u8]),
 ) -> Vec<(&'static str, Call<'a>, Call<'a>)> {
     let on = |call: fn(&[u8], &mut [u8]) -> u32| -> Call<'a> {
         Box::new(move || {
@@ -151,18 +154,21 @@ fn calls_on<'a>(
             black_box(call(sheet, &mut state, letter, booking));
         })
     };
-    let restart_with = |call: fn(&[u8], &[u8], &mut [u8]) -> u32| -> Call<'a> {
+    let with_lines = |call: fn(&[u8], &[u8], &mut [u8]) -> u32, state: State, lines: &'a [u8]| -> Call<'a> {
         Box::new(move || {
             let mut state = state;
-            black_box(call(sheet, journal, &mut state));
+            black_box(call(sheet, lines, &mut state));
         })
     };
+    let block_to = |call| with_lines(call, reply.0, block);
+    let restart_with = |call| with_lines(call, state, journal);
     let check = |call: fn(&[u8]) -> u32| -> Call<'a> { Box::new(move || _ = black_box(call(sheet))) };
     vec![
         ("check", check(library::check), check(calls::check)),
         ("start", on(library::start), on(calls::start)),
         ("next order", on(library::next_order), on(calls::next_order)),
         ("reply", reply_to(library::reply), reply_to(calls::reply)),
+        ("reply block", block_to(library::reply_block), block_to(calls::reply_block)),
         ("restart", restart_with(library::restart), restart_with(calls::restart)),
     ]
 }
@@ -176,7 +182,8 @@ fn print_stack(sheets: &[Sheet]) {
         let campaign = long_campaign(&sheet.bytes);
         let state = campaign.orders[campaign.orders.len() / 2];
         let reply = campaign.replies[campaign.replies.len() / 2];
-        for (name, mut here, mut there) in calls_on(&sheet.bytes, state, reply, &campaign.journal) {
+        let lines = (&campaign::line(reply.1, reply.2)[..], &campaign.journal[..]);
+        for (name, mut here, mut there) in calls_on(&sheet.bytes, state, reply, lines) {
             println!("| {} | {name} | {} | {} |", sheet.name, stack(&mut *here), stack(&mut *there));
         }
     }
@@ -201,6 +208,8 @@ fn main() {
     }
     let endless = sheets::endless(&examples);
     compared += equal::compare_restarts(&endless);
+    let wide: Vec<Wide> = sheets::for_blocks(&examples).into_iter().map(blocks::widest).collect();
+    compared += equal::compare_blocks(&wide);
     println!("# The library and a Rust version on bit sets\n");
     println!("Both were given the same calls first, {compared} of them, and answered alike.");
     println!("Each time is the best of many short rounds, each ratio the median of the rounds' ratios; next order and");
@@ -208,6 +217,7 @@ fn main() {
         "reply are means over up to {MEASURED} calls spread over a campaign, each on a copy of its state.\n"
     );
     print_calls(&sheets);
+    blocks::print_blocks(&wide);
     restart::print_restart(&endless);
     println!("## How the time grows\n");
     print_growth("With bookings", &by_bookings);

@@ -88,7 +88,31 @@ pub fn endless(examples: &str) -> Vec<Endless> {
     ]
 }
 
-/// A sheet with the kind that none of the measured ones has, D.
+/// As many bookings, links and ways as there can be, and 54 bookings that nothing comes before:
+/// the links go from them to the other ten. All ways have them, and all or most of the ten.
+fn wide() -> Vec<u8> {
+    let links: Vec<_> = (1..=54).flat_map(|u| (55..=64).map(move |v| (u, v))).take(512).collect();
+    let without = |left_out: &[usize]| (1..=64).filter(|b| !left_out.contains(b)).collect();
+    let mut ways: Vec<Vec<usize>> = vec![without(&[])];
+    ways.extend((55..=64).map(|b| without(&[b])));
+    ways.extend((55..=59).map(|b| without(&[b, b + 5])));
+    write_sheet(&"C".repeat(64), &links, &ways)
+}
+
+/// Small ones; 64 bookings without links, which may all be requested at once, in one way and in
+/// 16; and full size, with few and with many requests at once.
+pub fn for_blocks(examples: &str) -> Vec<Sheet> {
+    vec![
+        example(examples, "tanker", "Tanker (4, 3, 2)"),
+        example(examples, "chase", "chase (4, 1, 2)"),
+        Sheet { name: "unlinked (64, 0, 1)".to_string(), bytes: row(64, 0, 1) },
+        Sheet { name: "unlinked (64, 0, 16)".to_string(), bytes: row(64, 0, 16) },
+        example(examples, "full-size", "full size (64, 512, 16)"),
+        Sheet { name: "full size, wide (64, 512, 16)".to_string(), bytes: wide() },
+    ]
+}
+
+/// A sheet with the kind that none of the main ones has, D.
 pub fn compared_only(examples: &str) -> Vec<Sheet> {
     vec![example(examples, "chase", "chase (4, 1, 2)")]
 }
