@@ -74,10 +74,15 @@ const char *books_order(struct books *books, struct entry entry)
 
 bool books_fits(const struct books *books, struct entry entry)
 {
-    if (books_is_order(entry) || entry.booking < 1 || entry.booking > books->plan->bookings)
+    if (entry.booking < 1 || entry.booking > books->plan->bookings)
         return false;
-    bool to_request = entry.letter == CAMPAIGN_CONFIRMED || entry.letter == CAMPAIGN_DECLINED;
-    return books->code[entry.booking] == (to_request ? CAMPAIGN_REQUESTED : CAMPAIGN_RETURNING);
+    switch (entry.letter) {
+    case CAMPAIGN_CONFIRMED:
+    case CAMPAIGN_DECLINED: return books->code[entry.booking] == CAMPAIGN_REQUESTED;
+    case CAMPAIGN_RETURNED:
+    case CAMPAIGN_KEPT: return books->code[entry.booking] == CAMPAIGN_RETURNING;
+    default: return false;
+    }
 }
 
 static bool can_be_flown(const struct books *books, unsigned way)

@@ -9,7 +9,7 @@ struct dice {
     uint64_t chance;
 };
 
-enum matter { DAY, HURRY, TURN, ANSWER, CONFUSION, MUMBLE, REPEAT, REPEAT_WHEN_BACK };
+enum matter { DAY, HURRY, TURN, ANSWER, CONFUSION, MUMBLE, REPEAT, REPEAT_WHEN_BACK, CROWD, JOIN };
 
 /* splitmix64 */
 static uint64_t draw(struct dice *dice)
@@ -69,6 +69,16 @@ bool desks_hurry(const struct desks *desks, size_t lines)
     unsigned due[CAMPAIGN_MOST_BOOKINGS];
     struct dice dice = dice_for(desks, HURRY, lines, 0);
     return percent(&dice, 15) && with_order(desks, due) > 0;
+}
+
+bool desks_join(const struct desks *desks, size_t lines)
+{
+    /* From days on which the desks answer one by one to days on which all answer at once. */
+    static const unsigned days[] = {0, 30, 60, 90, 100};
+    unsigned due[CAMPAIGN_MOST_BOOKINGS];
+    struct dice day = dice_for(desks, CROWD, 0, 0);
+    struct dice dice = dice_for(desks, JOIN, lines, 0);
+    return percent(&dice, days[below(&day, sizeof days / sizeof days[0])]) && with_order(desks, due) > 0;
 }
 
 bool desks_answer(struct desks *desks, const struct plan *plan, size_t lines, struct reply *reply)

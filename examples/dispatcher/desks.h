@@ -35,6 +35,9 @@ void desks_send(struct desks *desks, struct order order);
 /* Some desk with an order answers even before the next order is fetched. */
 bool desks_hurry(const struct desks *desks, size_t lines);
 
+/* Some desk's answer has arrived together with the last one. */
+bool desks_join(const struct desks *desks, size_t lines);
+
 /* One of the desks with an order answers it; false if there is none. */
 bool desks_answer(struct desks *desks, const struct plan *plan, size_t lines, struct reply *reply);
 

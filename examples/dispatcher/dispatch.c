@@ -1,6 +1,7 @@
 #define _POSIX_C_SOURCE 200809L
 #include "dispatch.h"
 
+#include "block.h"
 #include "books.h"
 #include "desks.h"
 #include "words.h"
@@ -91,19 +92,29 @@ static bool restart_agrees(struct run *run, uint32_t answer, const uint8_t found
         || blame(run, "restart gives another state than the calls of the journal's lines", answer);
 }
 
+static bool store(struct run *run, const uint8_t *lines, size_t count)
+{
+    if (!journal_store(run->journal, lines, count))
+        run->outcome = JOURNAL_FAILED;
+    return run->outcome == ENDED;
+}
+
+static bool line_says(const uint8_t *line, struct entry entry)
+{
+    struct entry back;
+    return journal_read(line, &back) && back.letter == entry.letter && back.booking == entry.booking;
+}
+
 /* Stores the line of an order or an accepted reply. Until this is done there is no further call, and no order goes out. */
 static bool keep(struct run *run, struct entry entry)
 {
     uint8_t line[CAMPAIGN_JOURNAL_LINE_LENGTH];
-    struct entry back;
     uint32_t answer = campaign_journal_line(entry.letter, entry.booking, line, sizeof line);
     if (campaign_kind_of(answer) != CAMPAIGN_ACCEPTED || campaign_place_of(answer) != sizeof line)
         return blame(run, "a journal line was refused", answer);
-    if (!journal_read(line, &back) || back.letter != entry.letter || back.booking != entry.booking)
+    if (!line_says(line, entry))
         return blame(run, "a journal line does not say what happened", answer);
-    if (!journal_store(run->journal, line))
-        run->outcome = JOURNAL_FAILED;
-    return run->outcome == ENDED;
+    return store(run, line, 1);
 }
 
 /* Orders. */
@@ -170,7 +181,7 @@ static void say_why_passed_over(const struct run *run, unsigned way)
 
 static void say_way(const struct run *run, const char *word)
 {
-    unsigned way = run->state[0];
+    unsigned way = run->books.code[0];
     say(run, "  -- %s way %u:", word, way);
     say_set(run, run->plan->way[way]);
     say(run, "\n");
@@ -193,7 +204,7 @@ static void say_change(const struct run *run, unsigned before, unsigned after)
 static void say_patience(const struct run *run, unsigned way)
 {
     uint64_t deciding = books_coded(&run->books, CAMPAIGN_REQUESTED);
-    if (run->state[0] != way || way == 0 || deciding == 0)
+    if (run->books.code[0] != way || way == 0 || deciding == 0)
         return;
     if ((run->plan->way[way] & books_coded(&run->books, CAMPAIGN_LOST)) == 0)
         return;
@@ -203,6 +214,10 @@ static void say_patience(const struct run *run, unsigned way)
 }
 
 /* Replies. */
+
+static const char TO_AN_ORDER[] = "a reply to an order";
+static const char CONFUSED[] = "a confused reply";
+static const char MUMBLED[] = "the same reply without its order";
 
 static const char *words_for_reply(const struct run *run, struct entry reply)
 {
@@ -230,17 +245,30 @@ static bool enter_reply(struct run *run, struct entry reply)
     return books_agree(run) || blame(run, "state and books differ after a reply", answer);
 }
 
+static void say_reply(const struct run *run, struct reply reply, unsigned before)
+{
+    say(run, "  desk %2u says: %s (order %lu)\n", (unsigned) reply.what.booking, words_for_reply(run, reply.what),
+        reply.order);
+    if (run->books.code[0] != before)
+        say_change(run, before, run->books.code[0]);
+    say_patience(run, before);
+}
+
 static bool take_reply(struct run *run, struct reply reply)
 {
     unsigned before = run->books.code[0];
     if (!enter_reply(run, reply.what) || !keep(run, reply.what))
         return false;
-    say(run, "  desk %2u says: %s (order %lu)\n", (unsigned) reply.what.booking, words_for_reply(run, reply.what),
-        reply.order);
-    if (run->state[0] != before)
-        say_change(run, before, run->state[0]);
-    say_patience(run, before);
+    say_reply(run, reply, before);
     return true;
+}
+
+static void discard(struct run *run, struct reply reply)
+{
+    run->tally->discarded++;
+    say(run, "  desk %2u says again: %s (order %lu): discarded, the %s has that reply\n", (unsigned) reply.what.booking,
+        words_for_reply(run, reply.what), reply.order,
+        reply.order > run->books.replies[reply.what.booking] ? "block" : "journal");
 }
 
 /* A reply that quotes its order. Handed in, an old one would answer whatever order is open now. */
@@ -248,10 +276,19 @@ static bool receive(struct run *run, struct reply reply)
 {
     if (reply.order > run->books.replies[reply.what.booking])
         return take_reply(run, reply);
-    run->tally->discarded++;
-    say(run, "  desk %2u says again: %s (order %lu): discarded, the journal has that reply\n",
-        (unsigned) reply.what.booking, words_for_reply(run, reply.what), reply.order);
+    discard(run, reply);
     return true;
+}
+
+static void say_misfit(struct run *run, struct entry reply, const char *why)
+{
+    run->tally->misfits++;
+    say(run, "  %s (", why);
+    if (reply.letter > ' ' && reply.letter < 127)
+        say(run, "letter %c", reply.letter);
+    else
+        say(run, "byte %u", reply.letter);
+    say(run, ", booking %" PRIu32 "): ", reply.booking);
 }
 
 /* A reply that fits nothing must be refused with 9 and change nothing. */
@@ -266,13 +303,7 @@ static bool hand_in_misfit(struct run *run, struct entry reply, const char *why)
         return blame(run, "a reply that fits nothing was not refused as such", answer);
     if (memcmp(before, run->state, sizeof before) != 0)
         return blame(run, "a refused reply changed the state", answer);
-    run->tally->misfits++;
-    say(run, "  %s (", why);
-    if (reply.letter > ' ' && reply.letter < 127)
-        say(run, "letter %c", reply.letter);
-    else
-        say(run, "byte %u", reply.letter);
-    say(run, ", booking %" PRIu32 "): ", reply.booking);
+    say_misfit(run, reply, why);
     if (run->task->log != NULL)
         words_write_refusal(run->task->log, campaign_refusal_of(answer), campaign_place_of(answer));
     say(run, "; nothing changed\n");
@@ -308,15 +339,183 @@ static bool hear_a_desk(struct run *run)
     size_t lines = journal_lines(run->journal);
     struct reply reply;
     if (desks_confused(&run->desks, lines, run->books.code, &reply)
-        && !hand_in_misfit(run, reply.what, "a confused reply"))
+        && !hand_in_misfit(run, reply.what, CONFUSED))
         return false;
     if (!desks_answer(&run->desks, run->plan, lines, &reply))
         return blame(run, "told to wait, but no desk has an order", 0);
     if (!receive(run, reply))
         return false;
-    if (desks_mumble(&run->desks, lines) && !hand_in_misfit(run, reply.what, "the same reply without its order"))
+    if (desks_mumble(&run->desks, lines) && !hand_in_misfit(run, reply.what, MUMBLED))
         return false;
     return hear_repeats(run, false);
+}
+
+/* Blocks. */
+
+static uint32_t hand_in_lines(struct run *run, const uint8_t *lines, size_t count)
+{
+    return campaign_reply_block(run->plan->sheet, run->plan->length, lines, count * CAMPAIGN_BLOCK_LINE_LENGTH,
+                                run->state, CAMPAIGN_STATE_LENGTH);
+}
+
+/* Taken must be just those before the first that is not due, and the answer must say so. */
+static bool answer_agrees(struct run *run, const struct block *block, size_t from, uint32_t answer)
+{
+    size_t bad = block_first_bad(block, from);
+    uint32_t kept = (uint32_t) (bad - from);
+    bool all = bad == block->count;
+    if (campaign_kind_of(answer) != (all ? CAMPAIGN_ACCEPTED : CAMPAIGN_REFUSED)
+        || campaign_refusal_of(answer) != (all ? CAMPAIGN_NO_REFUSAL : block_refusal(block->arrived[bad].reply.what))
+        || campaign_place_of(answer) != (all ? kept : kept + 1) || campaign_kept_of(answer) != kept)
+        return blame(run, "a block was not taken up to its first reply that fits nothing", answer);
+    return true;
+}
+
+/* Our books after the replies that were taken are the state, and the lines still say them. */
+static bool block_agrees(struct run *run, const struct arrived *taken, size_t count, const uint8_t *lines,
+                         uint32_t answer)
+{
+    struct books books = run->books;
+    for (size_t i = 0; i < count; i++) {
+        const char *fault = books_reply(&books, taken[i].reply.what);
+        if (fault != NULL)
+            return blame(run, fault, answer);
+        if (!line_says(lines + i * CAMPAIGN_BLOCK_LINE_LENGTH, taken[i].reply.what))
+            return blame(run, "a line of a block does not say what happened", answer);
+    }
+    return memcmp(books.code, run->state, CAMPAIGN_STATE_LENGTH) == 0
+        || blame(run, "state and books differ after a block", answer);
+}
+
+static void enter_block(struct run *run, const struct arrived *taken, size_t count_taken)
+{
+    for (size_t i = 0; i < count_taken; i++) {
+        unsigned before = run->books.code[0];
+        books_reply(&run->books, taken[i].reply.what);
+        count(run, taken[i].reply.what);
+        run->tally->switches += run->books.code[0] != before;
+        say_reply(run, taken[i].reply, before);
+    }
+}
+
+static void say_bad_line(struct run *run, const struct arrived *bad, uint32_t answer)
+{
+    say_misfit(run, bad->reply.what, bad->name);
+    if (run->task->log != NULL)
+        words_write_block_refusal(run->task->log, campaign_refusal_of(answer), campaign_place_of(answer));
+    say(run, "; %s\n", campaign_kept_of(answer) > 0 ? "what comes before it stays" : "nothing changed");
+}
+
+/* Hands in the lines from one on, stores those that were taken, and says in from where to go on. */
+static bool take_block(struct run *run, const struct block *block, size_t *from, const uint8_t *lines)
+{
+    const struct arrived *arrived = block->arrived + *from;
+    size_t count = block->count - *from;
+    uint32_t answer = hand_in_lines(run, lines, count);
+    size_t kept = campaign_kept_of(answer);
+    if (!answer_agrees(run, block, *from, answer) || !block_agrees(run, arrived, kept, lines, answer)
+        || (kept > 0 && !store(run, lines, kept)))
+        return false;
+    run->tally->blocks++;
+    run->tally->most_at_once = kept > run->tally->most_at_once ? kept : run->tally->most_at_once;
+    say(run, "  -- a block of %zu %s\n", count, count == 1 ? "reply" : "replies");
+    enter_block(run, arrived, kept);
+    if (kept < count)
+        say_bad_line(run, arrived + kept, answer);
+    *from += kept < count ? kept + 1 : kept;
+    return true;
+}
+
+/* What stands after a bad line was not taken, and makes the next block. */
+static bool hand_in_block(struct run *run, const struct block *block)
+{
+    bool good = true;
+    for (size_t from = 0; good && from < block->count;) {
+        uint8_t *lines = block_lines(block, from);
+        if (lines == NULL) {
+            fputs("dispatcher: no memory for a block\n", stderr);
+            run->outcome = JOURNAL_FAILED;
+        }
+        good = lines != NULL && take_block(run, block, &from, lines);
+        free(lines);
+    }
+    return good;
+}
+
+/* A reply that quotes its order. */
+static void gather(struct run *run, struct block *block, struct reply reply)
+{
+    if (block_has(block, reply))
+        discard(run, reply);
+    else
+        block_add(block, reply, TO_AN_ORDER);
+}
+
+static void gather_repeats(struct run *run, struct block *block, size_t lines, bool back)
+{
+    for (unsigned booking = 1; booking <= run->plan->bookings; booking++) {
+        unsigned long number = desks_repeat(&run->desks, lines, booking, block->ahead.replies[booking], back);
+        if (number != 0)
+            gather(run, block, desks_say(&run->desks, run->plan, old_order(run, booking, number)));
+    }
+}
+
+/* One desk's answer, sometimes amid noise, when the journal would have so many lines. */
+static bool gather_a_desk(struct run *run, struct block *block, size_t lines)
+{
+    struct reply reply;
+    if (desks_confused(&run->desks, lines, block->ahead.code, &reply))
+        block_add(block, reply, CONFUSED);
+    if (!desks_answer(&run->desks, run->plan, lines, &reply))
+        return blame(run, "told to wait, but no desk has an order", 0);
+    gather(run, block, reply);
+    if (desks_mumble(&run->desks, lines))
+        block_add(block, (struct reply) {reply.what, 0}, MUMBLED);
+    gather_repeats(run, block, lines, false);
+    return true;
+}
+
+/* All that has arrived. It is the same after a stop within its lines: each desk has its turn by the number of lines. */
+static bool hear_all_desks(struct run *run)
+{
+    struct block block;
+    size_t lines = journal_lines(run->journal);
+    block_open(&block, &run->books);
+    do
+        if (!gather_a_desk(run, &block, lines + block.dues))
+            return false;
+    while (desks_hurry(&run->desks, lines + block.dues) || desks_join(&run->desks, lines + block.dues));
+    return hand_in_block(run, &block);
+}
+
+/* The desks. */
+
+static bool hear(struct run *run)
+{
+    return run->task->blocks ? hear_all_desks(run) : hear_a_desk(run);
+}
+
+/* After a stop: some say again what they said before. */
+static bool hear_when_back(struct run *run)
+{
+    struct block block;
+    if (!run->task->blocks)
+        return hear_repeats(run, true);
+    block_open(&block, &run->books);
+    gather_repeats(run, &block, journal_lines(run->journal), true);
+    return hand_in_block(run, &block);
+}
+
+/* Something has arrived even before the next order is fetched. What came together with the last reply is there after a
+   stop too. */
+static bool has_arrived(const struct run *run)
+{
+    size_t lines = journal_lines(run->journal);
+    struct entry last;
+    if (desks_hurry(&run->desks, lines))
+        return true;
+    return run->task->blocks && lines > 0 && journal_entry(run->journal, lines, &last) && !books_is_order(last)
+        && desks_join(&run->desks, lines);
 }
 
 /* The end. */
@@ -382,8 +581,8 @@ static bool run_to_end(struct run *run)
     for (;;) {
         bool good;
         pause_before_step(run);
-        if (desks_hurry(&run->desks, journal_lines(run->journal))) {
-            if (!hear_a_desk(run))
+        if (has_arrived(run)) {
+            if (!hear(run))
                 return false;
             continue;
         }
@@ -391,7 +590,7 @@ static bool run_to_end(struct run *run)
         switch (campaign_kind_of(answer)) {
         case CAMPAIGN_REQUEST: good = give_order(run, CAMPAIGN_REQUEST_LETTER, answer); break;
         case CAMPAIGN_RETURN: good = give_order(run, CAMPAIGN_RETURN_LETTER, answer); break;
-        case CAMPAIGN_WAIT: good = unchanged(run, answer) && hear_a_desk(run); break;
+        case CAMPAIGN_WAIT: good = unchanged(run, answer) && hear(run); break;
         case CAMPAIGN_FLOWN:
         case CAMPAIGN_CALLED_OFF: return unchanged(run, answer) && ended(run, answer);
         default: return blame(run, "next order was refused in the middle of a campaign", answer);
@@ -486,7 +685,7 @@ static bool go_on(struct run *run)
     else
         say_way(run, "now");
     send_again(run);
-    return hear_repeats(run, true);
+    return hear_when_back(run);
 }
 
 static bool start(struct run *run)

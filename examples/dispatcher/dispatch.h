@@ -14,12 +14,14 @@ struct tally {
     unsigned long misfits;
     unsigned long discarded;
     unsigned long switches;
+    unsigned long blocks, most_at_once; /* replies that one block took */
 };
 
 struct task {
     const struct plan *plan;
     uint64_t seed;  /* of the desks */
     uint64_t pause; /* milliseconds before each step */
+    bool blocks;    /* what has arrived is handed in together */
     FILE *log;      /* null: none */
 };
 

@@ -137,11 +137,11 @@ bool journal_cut(struct journal *journal)
     return sync_file(journal) && make_room(journal, journal->length);
 }
 
-static bool write_line(const struct journal *journal, const uint8_t *line)
+static bool write_lines(const struct journal *journal, const uint8_t *lines, size_t length)
 {
     size_t given = 0;
-    while (given < LINE) {
-        ssize_t count = pwrite(journal->file, line + given, LINE - given, (off_t) (journal->length + given));
+    while (given < length) {
+        ssize_t count = pwrite(journal->file, lines + given, length - given, (off_t) (journal->length + given));
         if (count < 0 && errno == EINTR)
             continue;
         if (count <= 0)
@@ -151,8 +151,9 @@ static bool write_line(const struct journal *journal, const uint8_t *line)
     return true;
 }
 
-/* A line that can be read but is not on the disk would mislead the next start; so it is taken away, if that still works. */
-static bool sync_line(const struct journal *journal)
+/* Lines that can be read but are not on the disk would mislead the next start; so they are taken away, if that still
+   works. */
+static bool sync_lines(const struct journal *journal)
 {
     int result;
     do
@@ -166,14 +167,15 @@ static bool sync_line(const struct journal *journal)
     return false;
 }
 
-bool journal_store(struct journal *journal, const uint8_t line[CAMPAIGN_JOURNAL_LINE_LENGTH])
+bool journal_store(struct journal *journal, const uint8_t *lines, size_t count)
 {
-    if (!make_room(journal, journal->length + LINE))
+    size_t length = count * LINE;
+    if (!make_room(journal, journal->length + length))
         return false;
-    if (journal->path != NULL && !(write_line(journal, line) && sync_line(journal)))
+    if (journal->path != NULL && !(write_lines(journal, lines, length) && sync_lines(journal)))
         return false;
-    memcpy(journal->bytes + journal->length, line, LINE);
-    journal->length += LINE;
+    memcpy(journal->bytes + journal->length, lines, length);
+    journal->length += length;
     return true;
 }
 

@@ -30,8 +30,8 @@ bool journal_open(struct journal *journal, const char *path);
 /* Drops the tail, in the file too. */
 bool journal_cut(struct journal *journal);
 
-/* Adds a line. When it comes back the line has reached the disk. */
-bool journal_store(struct journal *journal, const uint8_t line[CAMPAIGN_JOURNAL_LINE_LENGTH]);
+/* Adds so many lines. When it comes back they have reached the disk. */
+bool journal_store(struct journal *journal, const uint8_t *lines, size_t count);
 
 void journal_close(struct journal *journal);
 

@@ -1,7 +1,7 @@
 /*
  * A dispatcher over the campaign library, with simulated desks.
  *
- *     dispatcher [--seed N] [--pause MS] [--journal FILE | --campaigns N] PLANFILE
+ *     dispatcher [--seed N] [--pause MS] [--blocks] [--journal FILE | --campaigns N] PLANFILE
  *
  * One campaign writes its log; several are quiet and end in a summary. The
  * first has seed N, the next N + 1 and so on, so each can be repeated alone.
@@ -29,9 +29,10 @@ enum status {
 };
 
 static const char usage[] =
-    "usage: dispatcher [--seed N] [--pause MS] [--journal FILE | --campaigns N] PLANFILE\n"
+    "usage: dispatcher [--seed N] [--pause MS] [--blocks] [--journal FILE | --campaigns N] PLANFILE\n"
     "  --seed N        what the desks' answers are drawn from (1)\n"
     "  --pause MS      wait so many milliseconds before each step (0)\n"
+    "  --blocks        replies that arrive together are handed in together, as one block\n"
     "  --journal FILE  keep the campaign's journal in this file; if there is one already, go on from it\n"
     "  --campaigns N   run N campaigns quietly, each with the next seed, and print a summary\n"
     "status: 0 done, 1 fault in the library, 2 wrong option, 3 file can't be read,\n"
@@ -44,6 +45,7 @@ struct options {
     uint64_t campaigns; /* 0: one, with its log */
     const char *journal;
     const char *path;
+    bool blocks;
     bool help;
 };
 
@@ -96,6 +98,10 @@ static bool take_option(struct options *options, const char *name, const char *v
         return true;
     }
     *used = false;
+    if (strcmp(name, "--blocks") == 0) {
+        options->blocks = true;
+        return true;
+    }
     if (name[0] == '-' && name[1] != '\0')
         return complain("unknown option", name);
     return take_path(options, name);
@@ -160,6 +166,8 @@ static void write_summary(const struct plan *plan, const struct tally *t, const 
            t->confirmed, t->declined, t->returns, t->returned, t->kept);
     printf("  ways changed %lu times; %lu replies fitted nothing and were refused, %lu came again and were discarded\n",
            t->switches, t->misfits, t->discarded);
+    if (t->blocks > 0)
+        printf("  %lu blocks; most replies taken at once: %lu\n", t->blocks, t->most_at_once);
 }
 
 static enum status run_campaign(const struct task *task, const char *path, struct tally *tally)
@@ -177,7 +185,7 @@ static enum status run_campaign(const struct task *task, const char *path, struc
 static enum status run_campaigns(const struct plan *plan, const struct options *options)
 {
     struct tally tally = {0};
-    struct task task = {.plan = plan, .seed = options->seed, .pause = options->pause};
+    struct task task = {.plan = plan, .seed = options->seed, .pause = options->pause, .blocks = options->blocks};
     if (options->campaigns == 0) {
         task.log = stdout;
         return run_campaign(&task, options->journal, &tally);

@@ -59,3 +59,10 @@ void words_write_refusal(FILE *out, uint32_t refusal, uint32_t place)
     else
         fputs("a number this program does not know", out);
 }
+
+void words_write_block_refusal(FILE *out, uint32_t refusal, uint32_t line)
+{
+    fprintf(out, "refusal %u: %s: line %u of the block", (unsigned) refusal,
+            refusal == CAMPAIGN_FORM ? "the reply is not of its form" : "the reply fits nothing that was asked",
+            (unsigned) line);
+}
