@@ -36,7 +36,7 @@ FIXED(CAMPAIGN_WRONG_LINE == 12);
 FIXED(CAMPAIGN_CONFIRMED == 89 && CAMPAIGN_DECLINED == 78);
 FIXED(CAMPAIGN_RETURNED == 71 && CAMPAIGN_KEPT == 75);
 FIXED(CAMPAIGN_REQUEST_LETTER == 81 && CAMPAIGN_RETURN_LETTER == 85);
-FIXED(CAMPAIGN_JOURNAL_LINE_LENGTH == 6);
+FIXED(CAMPAIGN_BLOCK_LINE_LENGTH == 6 && CAMPAIGN_JOURNAL_LINE_LENGTH == 6);
 
 static int faults = 0;
 
@@ -195,6 +195,227 @@ static void restarts_that_do_not(void)
     restart(twin, "Q   2\n", 64, 0, CAMPAIGN_STRANDING, 259, NULL);
 }
 
+/* A block on a state with these first five bytes, the others 0, and the first five that it leaves. */
+static void block(const char *sheet, const char *before, const char *lines, uint32_t kind, uint32_t refusal,
+                  uint32_t place, const char *after)
+{
+    uint8_t state[CAMPAIGN_STATE_LENGTH] = {0};
+    uint8_t wanted[CAMPAIGN_STATE_LENGTH] = {0};
+    memcpy(state, before, 5);
+    memcpy(wanted, after, 5);
+    expect(lines, campaign_reply_block((const uint8_t *) sheet, strlen(sheet), (const uint8_t *) lines, strlen(lines),
+                                       state, sizeof state), kind, refusal, place);
+    expect_bytes(lines, state, wanted, sizeof state);
+}
+
+/* All four can be asked for at once; way 2 is the last alone. */
+static const char field[] = "P   4   0   2\nB   1 C\nB   2 D\nB   3 C\nB   4 D\nA   4   1   2   3   4\nA   1   4\n";
+
+#define ASKED "\1\1\1\1\1"
+#define FIRST_HELD "\1\2\1\1\1"
+#define GIVING_BACK "\2\3\4\4\2"
+
+static void blocks_that_pass(void)
+{
+    block(field, ASKED, "", CAMPAIGN_ACCEPTED, 0, 0, ASKED);
+    block(field, ASKED, "Y   1\n", CAMPAIGN_ACCEPTED, 0, 1, FIRST_HELD);
+    block(field, ASKED, "Y   3\nN   2\nY   1\n", CAMPAIGN_ACCEPTED, 0, 3, "\1\2\0\2\1");
+    block(field, ASKED, "N   1\nY   2\n", CAMPAIGN_ACCEPTED, 0, 2, "\1\3\2\1\1"); /* 3 and 4 still decide */
+    block(field, ASKED, "N   1\nY   2\nY   4\nY   3\n", CAMPAIGN_ACCEPTED, 0, 4, "\2\3\2\2\2");
+    block(field, ASKED, "N   4\nN   3\nN   2\nN   1\n", CAMPAIGN_ACCEPTED, 0, 4, "\2\3\0\3\0");
+    block(field, "\2\3\0\3\1", "N   4\n", CAMPAIGN_ACCEPTED, 0, 1, "\2\3\0\3\0");
+    block(field, GIVING_BACK, "G   3\nK   2\n", CAMPAIGN_ACCEPTED, 0, 2, "\2\3\2\0\2");
+    block(field, GIVING_BACK, "G   2\nG   3\n", CAMPAIGN_ACCEPTED, 0, 2, "\2\3\0\0\2");
+    block(pair, "\1\1\1\0\0", "N   2\nY   1\n", CAMPAIGN_ACCEPTED, 0, 2, "\0\2\3\0\0");
+    block(pair, "\0\4\3\0\0", "K   1\n", CAMPAIGN_ACCEPTED, 0, 1, "\0\2\3\0\0");
+    block(pair, "\0\4\3\0\0", "G   1\n", CAMPAIGN_ACCEPTED, 0, 1, "\0\0\3\0\0");
+}
+
+static void blocks_that_do_not_fit(void)
+{
+    block(field, ASKED, "Y   1\nY   1\nY   2\n", 0, CAMPAIGN_MISFIT, 2, FIRST_HELD); /* answered already */
+    block(field, ASKED, "Y   1\nG   2\n", 0, CAMPAIGN_MISFIT, 2, FIRST_HELD);         /* not returning */
+    block(field, ASKED, "Y   1\nU   2\nY   2\n", 0, CAMPAIGN_MISFIT, 2, FIRST_HELD); /* an order is no reply */
+    block(field, ASKED, "Q   1\n", 0, CAMPAIGN_MISFIT, 1, ASKED);
+    block(field, ASKED, "y   1\n", 0, CAMPAIGN_MISFIT, 1, ASKED);
+    block(field, ASKED, "\xFF   1\n", 0, CAMPAIGN_MISFIT, 1, ASKED);
+    block(field, ASKED, "\n   1\n", 0, CAMPAIGN_MISFIT, 1, ASKED);
+    block(field, ASKED, "Y   0\n", 0, CAMPAIGN_MISFIT, 1, ASKED);
+    block(field, ASKED, "Y   1\nY   5\nY   2\n", 0, CAMPAIGN_MISFIT, 2, FIRST_HELD); /* not on the sheet */
+    block(field, ASKED, "Y  65\n", 0, CAMPAIGN_MISFIT, 1, ASKED);
+    block(field, ASKED, "Y9999\n", 0, CAMPAIGN_MISFIT, 1, ASKED);
+    block(pair, "\0\4\3\0\0", "Y   1\n", 0, CAMPAIGN_MISFIT, 1, "\0\4\3\0\0");
+    block(field, GIVING_BACK, "K   3\nG   3\nG   2\n", 0, CAMPAIGN_MISFIT, 2, "\2\3\4\2\2"); /* not asked again */
+    block(field, ASKED, "G   1\nY0002\n", 0, CAMPAIGN_MISFIT, 1, ASKED); /* the first bad line, whatever comes after */
+    block(field, ASKED, "Y   1\nG   2\nY", 0, CAMPAIGN_MISFIT, 2, FIRST_HELD);
+    /* The bad line is the last that was missing for another way: none is chosen. */
+    block(field, ASKED, "N   1\nY   2\nY   4\nG   3\n", 0, CAMPAIGN_MISFIT, 4, "\1\3\2\1\2");
+}
+
+static void blocks_of_another_form(void)
+{
+    block(field, ASKED, "Y0001\n", 0, CAMPAIGN_FORM, 1, ASKED);
+    block(field, ASKED, "Y  01\n", 0, CAMPAIGN_FORM, 1, ASKED);
+    block(field, ASKED, "Y1   \n", 0, CAMPAIGN_FORM, 1, ASKED);
+    block(field, ASKED, "Y  1 \n", 0, CAMPAIGN_FORM, 1, ASKED);
+    block(field, ASKED, "Y    \n", 0, CAMPAIGN_FORM, 1, ASKED);
+    block(field, ASKED, "Y  +1\n", 0, CAMPAIGN_FORM, 1, ASKED);
+    block(field, ASKED, "Y   1\nY   2\rY   3\n", 0, CAMPAIGN_FORM, 2, FIRST_HELD);
+    block(field, ASKED, "Y   1\n\nY   2\n", 0, CAMPAIGN_FORM, 2, FIRST_HELD); /* an empty line shifts the rest */
+    block(field, ASKED, "Y", 0, CAMPAIGN_FORM, 1, ASKED);
+    block(field, ASKED, "Y   1", 0, CAMPAIGN_FORM, 1, ASKED);
+    block(field, ASKED, "Y   1\nY   2", 0, CAMPAIGN_FORM, 2, FIRST_HELD);
+    block(field, ASKED, "Y   1\n\n", 0, CAMPAIGN_FORM, 2, FIRST_HELD);
+    block(field, ASKED, "?0001\n", 0, CAMPAIGN_FORM, 1, ASKED); /* the form comes before the letter */
+    block(field, ASKED, "Y0001\nG   1\n", 0, CAMPAIGN_FORM, 1, ASKED);
+}
+
+/* The sheet comes first, then the state, then the lines; nothing changes. */
+static void blocks_refused_whole(void)
+{
+    static const char wrong[] = "\3\1\1\1\1", code[] = "\1\1\5\1\1", returning[] = "\1\1\4\1\1";
+    uint8_t state[CAMPAIGN_STATE_LENGTH] = {1, 1, 1, 1, 1};
+    uint8_t before[CAMPAIGN_STATE_LENGTH] = {1, 1, 1, 1, 1};
+    const uint8_t *bytes = (const uint8_t *) "Y   1\nY0002\n";
+    block("", ASKED, "Y   1\n", 0, CAMPAIGN_FORM, 1, ASKED);
+    block("P   1   0   0\n", ASKED, "Y   1\n", 0, CAMPAIGN_COUNT, 1, ASKED);
+    block("P   1   0   1\nB   2 C\nA   1   1\n", ASKED, "Y   1\n", 0, CAMPAIGN_NUMBER, 2, ASKED);
+    block("P   2   2   1\nB   1 C\nB   2 C\nL   1   2\nL   2   1\nA   2   1   2\n", ASKED, "Y   1\n",
+          0, CAMPAIGN_CIRCLE, 1, ASKED);
+    block("P   2   1   2\nB   1 C\nB   2 C\nL   1   2\nA   2   1   2\nA   1   2\n", ASKED, "Y   1\n",
+          0, CAMPAIGN_WAY_NOT_CLOSED, 2, ASKED);
+    block("P   2   0   1\nB   1 C\nB   2 C\nA   1   1\n", ASKED, "Y   1\n", 0, CAMPAIGN_UNUSED, 2, ASKED);
+    block("P   1   0   2\nB   1 C\nA   1   1\nA   1   1\n", ASKED, "Y   1\n", 0, CAMPAIGN_WAY_TWICE, 2, ASKED);
+    block(twin, "\1\1\0\0\0", "Y   1\n", 0, CAMPAIGN_STRANDING, 259, "\1\1\0\0\0");
+    block(twin, wrong, "Y0001\n", 0, CAMPAIGN_STRANDING, 259, wrong);
+    block(field, wrong, "Y   1\n", 0, CAMPAIGN_UNSOUND, 0, wrong);
+    block(field, wrong, "", 0, CAMPAIGN_UNSOUND, 0, wrong);
+    block(field, code, "G   1\n", 0, CAMPAIGN_UNSOUND, 0, code);
+    block(field, returning, "Y0001\n", 0, CAMPAIGN_UNSOUND, 0, returning); /* of the current way */
+    block(pair, ASKED, "Y   1\n", 0, CAMPAIGN_UNSOUND, 0, ASKED);          /* of another sheet */
+    expect("64 bytes", campaign_reply_block((const uint8_t *) field, strlen(field), bytes, 12, state, 64),
+           0, CAMPAIGN_UNSOUND, 0);
+    expect_bytes("64 bytes", state, before, sizeof state);
+}
+
+/* As many as there can be: 64 replies, and one more. */
+static void longest_block(void)
+{
+    char sheet[14 + 64 * 8 + 6 + 64 * 4 + 1];
+    char lines[65 * 6 + 1];
+    uint8_t state[CAMPAIGN_STATE_LENGTH];
+    uint8_t held[CAMPAIGN_STATE_LENGTH];
+    size_t at = (size_t) sprintf(sheet, "P  64   0   1\n");
+    for (int booking = 1; booking <= 64; booking++)
+        at += (size_t) sprintf(sheet + at, "B%4d C\n", booking);
+    at += (size_t) sprintf(sheet + at, "A  64");
+    for (int booking = 1; booking <= 64; booking++)
+        at += (size_t) sprintf(sheet + at, "%4d", booking);
+    for (int i = 0; i < 65; i++)
+        sprintf(lines + i * 6, "Y%4d\n", i < 64 ? 64 - i : 1);
+    sheet[at++] = '\n';
+    for (size_t length = 64 * 6; length <= 65 * 6; length++) {
+        uint32_t refusal = length == 64 * 6 ? 0 : length < 65 * 6 ? CAMPAIGN_FORM : CAMPAIGN_MISFIT;
+        memset(state, CAMPAIGN_REQUESTED, sizeof state);
+        memset(held, CAMPAIGN_HELD, sizeof held);
+        held[0] = 1;
+        expect("64 replies", campaign_reply_block((const uint8_t *) sheet, at, (const uint8_t *) lines, length, state,
+                                                  sizeof state),
+               refusal == 0 ? CAMPAIGN_ACCEPTED : CAMPAIGN_REFUSED, refusal, refusal == 0 ? 64 : 65);
+        expect_bytes("64 replies", state, held, sizeof state);
+    }
+}
+
+/* Line by line through campaign_reply; answer and state as the block must have them. */
+static uint32_t one_by_one(const char *lines, size_t count, uint8_t state[CAMPAIGN_STATE_LENGTH])
+{
+    for (size_t i = 0; i < count; i++) {
+        uint32_t answer = campaign_reply((const uint8_t *) field, strlen(field), state, CAMPAIGN_STATE_LENGTH,
+                                         (uint8_t) lines[6 * i], (uint32_t) (lines[6 * i + 4] - '0'));
+        if (campaign_refusal_of(answer) == CAMPAIGN_MISFIT)
+            return 9 * 65536u + (uint32_t) i + 1;
+        expect("a single reply", answer, CAMPAIGN_ACCEPTED, 0, (uint32_t) (lines[6 * i + 4] - '0'));
+    }
+    return 6 * 16777216u + (uint32_t) count;
+}
+
+/* Each block of three lines: of five letters and six bookings, some of which are none. */
+static void compare_with_replies(const char *front)
+{
+    static const char letters[] = "YNGK?";
+    char lines[3 * 6 + 1];
+    for (int number = 0; number < 30 * 30 * 30 && faults == 0; number++) {
+        uint8_t together[CAMPAIGN_STATE_LENGTH] = {0};
+        uint8_t single[CAMPAIGN_STATE_LENGTH] = {0};
+        for (int i = 0, rest = number; i < 3; i++, rest /= 30)
+            sprintf(lines + 6 * i, "%c%4d\n", letters[rest % 5], rest / 5 % 6);
+        memcpy(together, front, 5);
+        memcpy(single, front, 5);
+        uint32_t answer = campaign_reply_block((const uint8_t *) field, strlen(field), (const uint8_t *) lines, 18,
+                                               together, sizeof together);
+        if (answer != one_by_one(lines, 3, single)) {
+            fprintf(stderr, "header: a block answers otherwise than its replies: %s", lines);
+            faults++;
+        }
+        expect_bytes(lines, together, single, sizeof single);
+    }
+}
+
+static void kept(const char *what, uint32_t kind, uint32_t refusal, uint32_t place, uint32_t wanted)
+{
+    if (campaign_kept_of(kind * 16777216u + refusal * 65536u + place) == wanted)
+        return;
+    fprintf(stderr, "header: kept of %s\n", what);
+    faults++;
+}
+
+static void kepts(void)
+{
+    kept("none", CAMPAIGN_ACCEPTED, 0, 0, 0);
+    kept("five", CAMPAIGN_ACCEPTED, 0, 5, 5);
+    kept("all", CAMPAIGN_ACCEPTED, 0, 64, 64);
+    kept("a misformed first line", 0, CAMPAIGN_FORM, 1, 0);
+    kept("a misformed third line", 0, CAMPAIGN_FORM, 3, 2);
+    kept("a misfit in line 1", 0, CAMPAIGN_MISFIT, 1, 0);
+    kept("a misfit in line 65", 0, CAMPAIGN_MISFIT, 65, 64);
+    kept("a single misfit above 64", 0, CAMPAIGN_MISFIT, 0, 0);
+    kept("a count", 0, CAMPAIGN_COUNT, 3, 0);
+    kept("a number", 0, CAMPAIGN_NUMBER, 3, 0);
+    kept("a circle", 0, CAMPAIGN_CIRCLE, 3, 0);
+    kept("a way not closed", 0, CAMPAIGN_WAY_NOT_CLOSED, 3, 0);
+    kept("an unused booking", 0, CAMPAIGN_UNUSED, 3, 0);
+    kept("a way twice", 0, CAMPAIGN_WAY_TWICE, 3, 0);
+    kept("a stranding point", 0, CAMPAIGN_STRANDING, 259, 0);
+    kept("a short buffer", 0, CAMPAIGN_SHORT_BUFFER, 0, 0);
+    kept("an unsound state", 0, CAMPAIGN_UNSOUND, 0, 0);
+    kept("a wrong line", 0, CAMPAIGN_WRONG_LINE, 3, 0);
+    kept("a request", CAMPAIGN_REQUEST, 0, 3, 0);
+    kept("a return", CAMPAIGN_RETURN, 0, 3, 0);
+    kept("a wait", CAMPAIGN_WAIT, 0, 0, 0);
+    kept("a way flown", CAMPAIGN_FLOWN, 0, 3, 0);
+    kept("a calling off", CAMPAIGN_CALLED_OFF, 0, 0, 0);
+}
+
+/* The lines of a block are those of the journal: what a block kept of its own bytes, restart takes. */
+static void block_into_journal(void)
+{
+    static const char lines[] = "N   1\nY   2\nY   4\nG   3\n";
+    char journal[64] = "Q   1\nQ   2\nQ   3\nQ   4\n";
+    uint8_t state[CAMPAIGN_STATE_LENGTH] = {1, 1, 1, 1, 1};
+    uint8_t wanted[CAMPAIGN_STATE_LENGTH] = {1, 3, 2, 1, 2};
+    uint8_t found[CAMPAIGN_STATE_LENGTH];
+    uint32_t answer = campaign_reply_block((const uint8_t *) field, strlen(field), (const uint8_t *) lines,
+                                           strlen(lines), state, sizeof state);
+    size_t stored = campaign_kept_of(answer) * CAMPAIGN_BLOCK_LINE_LENGTH;
+    expect("a block for the journal", answer, 0, CAMPAIGN_MISFIT, 4);
+    memcpy(journal + 24, lines, stored);
+    memset(found, 0xEE, sizeof found);
+    expect("a block in the journal", campaign_restart((const uint8_t *) field, strlen(field), (const uint8_t *) journal,
+                                                      24 + stored, found, sizeof found), CAMPAIGN_ACCEPTED, 0, 0);
+    expect_bytes("a block", state, wanted, sizeof state);
+    expect_bytes("a block in the journal", found, wanted, sizeof found);
+}
+
 /* A length of 0 lends nothing, and then the pointer may be null: each lent part of each call in turn. */
 static void nulls(void)
 {
@@ -217,6 +438,21 @@ static void nulls(void)
     expect_bytes("null journal", state, first, sizeof state);
 }
 
+static void nulls_of_a_block(void)
+{
+    const uint8_t *sheet = (const uint8_t *) field;
+    size_t length = strlen(field);
+    const uint8_t *lines = (const uint8_t *) "Y   1\n";
+    uint8_t state[CAMPAIGN_STATE_LENGTH] = {1, 1, 1, 1, 1};
+    uint8_t before[CAMPAIGN_STATE_LENGTH] = {1, 1, 1, 1, 1};
+    expect("null sheet: block", campaign_reply_block(NULL, 0, lines, 6, state, sizeof state), 0, CAMPAIGN_FORM, 1);
+    expect("null state: block", campaign_reply_block(sheet, length, lines, 6, NULL, 0), 0, CAMPAIGN_UNSOUND, 0);
+    expect("null block", campaign_reply_block(sheet, length, NULL, 0, state, sizeof state), CAMPAIGN_ACCEPTED, 0, 0);
+    expect("null block and state", campaign_reply_block(sheet, length, NULL, 0, NULL, 0), 0, CAMPAIGN_UNSOUND, 0);
+    expect("all null: block", campaign_reply_block(NULL, 0, NULL, 0, NULL, 0), 0, CAMPAIGN_FORM, 1);
+    expect_bytes("null: block", state, before, sizeof state);
+}
+
 int main(void)
 {
     checks();
@@ -225,5 +461,17 @@ int main(void)
     restarts_that_pass();
     restarts_that_do_not();
     nulls();
+    blocks_that_pass();
+    blocks_that_do_not_fit();
+    blocks_of_another_form();
+    blocks_refused_whole();
+    longest_block();
+    compare_with_replies(ASKED);
+    compare_with_replies(GIVING_BACK);
+    compare_with_replies("\1\3\2\1\1");
+    compare_with_replies("\2\3\0\3\1");
+    block_into_journal();
+    kepts();
+    nulls_of_a_block();
     return faults == 0 ? 0 : 1;
 }

@@ -8,12 +8,16 @@
 uint32_t __real_campaign_next_order(const uint8_t *sheet, size_t sheet_len, uint8_t *state, size_t state_len);
 uint32_t __real_campaign_reply(const uint8_t *sheet, size_t sheet_len, uint8_t *state, size_t state_len,
                                uint8_t letter, uint32_t booking);
+uint32_t __real_campaign_reply_block(const uint8_t *sheet, size_t sheet_len, const uint8_t *block, size_t block_len,
+                                     uint8_t *state, size_t state_len);
 uint32_t __real_campaign_journal_line(uint8_t letter, uint32_t booking, uint8_t *line, size_t line_len);
 uint32_t __real_campaign_restart(const uint8_t *sheet, size_t sheet_len, const uint8_t *journal, size_t journal_len,
                                  uint8_t *state, size_t state_len);
 uint32_t __wrap_campaign_next_order(const uint8_t *sheet, size_t sheet_len, uint8_t *state, size_t state_len);
 uint32_t __wrap_campaign_reply(const uint8_t *sheet, size_t sheet_len, uint8_t *state, size_t state_len,
                                uint8_t letter, uint32_t booking);
+uint32_t __wrap_campaign_reply_block(const uint8_t *sheet, size_t sheet_len, const uint8_t *block, size_t block_len,
+                                     uint8_t *state, size_t state_len);
 uint32_t __wrap_campaign_journal_line(uint8_t letter, uint32_t booking, uint8_t *line, size_t line_len);
 uint32_t __wrap_campaign_restart(const uint8_t *sheet, size_t sheet_len, const uint8_t *journal, size_t journal_len,
                                  uint8_t *state, size_t state_len);
@@ -61,6 +65,62 @@ uint32_t __wrap_campaign_reply(const uint8_t *sheet, size_t sheet_len, uint8_t *
     if (lie_is("loses what can be asked for again") && letter == CAMPAIGN_DECLINED
         && campaign_kind_of(answer) == CAMPAIGN_ACCEPTED && state[booking] == CAMPAIGN_FREE)
         state[booking] = CAMPAIGN_LOST;
+    return answer;
+}
+
+/* Other replies are taken than the answer says. */
+static void take_wrongly(const uint8_t *sheet, size_t sheet_len, const uint8_t *block, size_t block_len,
+                         uint8_t *state, const uint8_t before[CAMPAIGN_STATE_LENGTH], uint32_t answer)
+{
+    const size_t line = CAMPAIGN_BLOCK_LINE_LENGTH, length = CAMPAIGN_STATE_LENGTH;
+    size_t kept = campaign_kept_of(answer);
+    int refused = campaign_kind_of(answer) == CAMPAIGN_REFUSED;
+    if (lie_is("keeps one fewer than it says") && kept > 0) {
+        memcpy(state, before, length);
+        __real_campaign_reply_block(sheet, sheet_len, block, (kept - 1) * line, state, length);
+    }
+    if (lie_is("keeps one past the bad line") && refused && (kept + 2) * line <= block_len)
+        __real_campaign_reply_block(sheet, sheet_len, block + (kept + 1) * line, line, state, length);
+    if (lie_is("undoes what came before a bad line") && refused)
+        memcpy(state, before, length);
+    if (lie_is("takes nothing of a block") && !refused)
+        memcpy(state, before, length);
+    if (lie_is("does not change the way within a block"))
+        state[0] = before[0];
+    if (lie_is("writes into the block") && kept > 0)
+        ((uint8_t *) block)[0] ^= 'Y' ^ 'N';
+}
+
+uint32_t __wrap_campaign_reply_block(const uint8_t *sheet, size_t sheet_len, const uint8_t *block, size_t block_len,
+                                     uint8_t *state, size_t state_len)
+{
+    uint8_t before[CAMPAIGN_STATE_LENGTH];
+    memcpy(before, state, sizeof before);
+    uint32_t answer = __real_campaign_reply_block(sheet, sheet_len, block, block_len, state, state_len);
+    int refused = campaign_kind_of(answer) == CAMPAIGN_REFUSED;
+    take_wrongly(sheet, sheet_len, block, block_len, state, before, answer);
+    if (lie_is("says a number too low") && !refused)
+        return answer - 1;
+    if (lie_is("says a number too high") && !refused)
+        return answer + 1;
+    if (lie_is("says the booking, not the number") && !refused)
+        return packed(CAMPAIGN_ACCEPTED, (uint32_t) (block[block_len - 2] - '0'));
+    if (lie_is("names the line after the bad one") && refused)
+        return answer + 1;
+    if (lie_is("counts the bad line from 0") && refused)
+        return answer - 1;
+    if (lie_is("calls each bad line misformed") && refused)
+        return (uint32_t) CAMPAIGN_FORM << 16 | campaign_place_of(answer);
+    if (lie_is("calls each bad line a misfit") && refused)
+        return (uint32_t) CAMPAIGN_MISFIT << 16 | campaign_place_of(answer);
+    if (lie_is("accepts a block with a bad line") && refused)
+        return packed(CAMPAIGN_ACCEPTED, campaign_kept_of(answer));
+    if (lie_is("refuses a right block") && !refused)
+        return (uint32_t) CAMPAIGN_MISFIT << 16 | (campaign_place_of(answer) + 1);
+    if (lie_is("takes the first reply alone") && !refused && block_len > CAMPAIGN_BLOCK_LINE_LENGTH) {
+        memcpy(state, before, sizeof before);
+        return __real_campaign_reply_block(sheet, sheet_len, block, CAMPAIGN_BLOCK_LINE_LENGTH, state, state_len);
+    }
     return answer;
 }
 
