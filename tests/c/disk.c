@@ -2,9 +2,10 @@
  * Put between the dispatcher on one side, disk and library on the other: a disk
  * that takes few bytes at a time, and a guard that ends the program (status 99)
  * where it breaks the journal's rules: the line of an order or an accepted
- * reply is synced before the next call, an order's line before the order goes
- * out, also the lines that a killed program left; a line is stored only behind
- * whole lines, after the folder is synced, and after a cut is.
+ * reply, and the lines that a block kept, are synced before the next call, an
+ * order's line before the order goes out, also the lines that a killed program
+ * left; a line is stored only of what was made, behind whole lines, after the
+ * folder is synced, and after a cut is.
  *
  *     DISK_STOP=N   killed when the journal has N bytes
  *     DISK_FULL=N   no room for more than N bytes
@@ -32,6 +33,8 @@ int __real_ftruncate(int file, off_t length);
 uint32_t __real_campaign_next_order(const uint8_t *sheet, size_t sheet_len, uint8_t *state, size_t state_len);
 uint32_t __real_campaign_reply(const uint8_t *sheet, size_t sheet_len, uint8_t *state, size_t state_len,
                                uint8_t letter, uint32_t booking);
+uint32_t __real_campaign_reply_block(const uint8_t *sheet, size_t sheet_len, const uint8_t *block, size_t block_len,
+                                     uint8_t *state, size_t state_len);
 void __real_desks_send(struct desks *desks, struct order order);
 ssize_t __wrap_pwrite(int file, const void *bytes, size_t count, off_t at);
 int __wrap_fdatasync(int file);
@@ -40,6 +43,8 @@ int __wrap_ftruncate(int file, off_t length);
 uint32_t __wrap_campaign_next_order(const uint8_t *sheet, size_t sheet_len, uint8_t *state, size_t state_len);
 uint32_t __wrap_campaign_reply(const uint8_t *sheet, size_t sheet_len, uint8_t *state, size_t state_len,
                                uint8_t letter, uint32_t booking);
+uint32_t __wrap_campaign_reply_block(const uint8_t *sheet, size_t sheet_len, const uint8_t *block, size_t block_len,
+                                     uint8_t *state, size_t state_len);
 void __wrap_desks_send(struct desks *desks, struct order order);
 
 static size_t made;   /* orders given and replies accepted, those of the journal's lines too */
@@ -81,7 +86,8 @@ ssize_t __wrap_pwrite(int file, const void *bytes, size_t count, off_t at)
     size_t part = 1 + writes % 5;
     struct stat facts;
     demand(fstat(file, &facts) == 0 && facts.st_size == at, "a line is not stored at the end of the file");
-    demand((size_t) at / LINE == synced, "a line is stored behind one that is not synced");
+    /* Only the lines of one block, which were made together, may stand there unsynced. */
+    demand((size_t) at / LINE >= synced && (size_t) at + count <= made * LINE, "a line is stored that was not made");
     demand(folder_synced, "a line is stored before the folder is synced");
     demand(!cut_open, "a line is stored before the cut is synced");
     nap();
@@ -150,6 +156,15 @@ uint32_t __wrap_campaign_reply(const uint8_t *sheet, size_t sheet_len, uint8_t *
     demand(made <= synced, "a reply while the last line is not synced");
     uint32_t answer = __real_campaign_reply(sheet, sheet_len, state, state_len, letter, booking);
     made += campaign_kind_of(answer) == CAMPAIGN_ACCEPTED;
+    return answer;
+}
+
+uint32_t __wrap_campaign_reply_block(const uint8_t *sheet, size_t sheet_len, const uint8_t *block, size_t block_len,
+                                     uint8_t *state, size_t state_len)
+{
+    demand(made <= synced, "a block while the last line is not synced");
+    uint32_t answer = __real_campaign_reply_block(sheet, sheet_len, block, block_len, state, state_len);
+    made += campaign_kept_of(answer);
     return answer;
 }
 

@@ -6,6 +6,9 @@
  *     stops disk DISPATCHER FOLDER SHEET..       the dispatcher over disk.c: killed within its write at every byte, and
  *                                                a disk that is full at every byte
  *     stops kills COUNT DISPATCHER FOLDER SHEET..   killed at random moments, so many times, on these sheets in turn
+ *     stops mixed DISPATCHER FOLDER SHEET..      cut at every line, and gone on with blocks where there were none, or
+ *                                                without them
+ *     stops --blocks ..                          replies in blocks, before the stop and after it
  *
  * What a campaign that was stopped must come to is taken from one that was not:
  * the same books, the same journal. Works in FOLDER; the first difference ends
@@ -37,16 +40,19 @@ struct campaign {
     unsigned seed;
     struct bytes journal;
     struct bytes books;
+    struct bytes within; /* by number of whole lines: 1 where the next line is of the same block as the last */
 };
 
 static const char *dispatcher;
 static char journal[4096]; /* paths */
 static char output[4096];
+static bool blocks;
 
 static struct {
     unsigned long campaigns, cuts, tails, damaged, foreign, refused, kills, in_write, full, sent_again, discarded;
     unsigned long letters[128];
     unsigned long switches, called_off;
+    unsigned long within, changed, others;
 } met;
 
 static void fail(const struct campaign *campaign, const char *format, ...)
@@ -143,7 +149,8 @@ static pid_t launch(const struct campaign *campaign, const char *pause)
     }
     if (dup2(file, 1) < 0 || dup2(file, 2) < 0)
         _exit(120);
-    execl(dispatcher, dispatcher, "--seed", seed, "--pause", pause, "--journal", journal, campaign->sheet, (char *) NULL);
+    execl(dispatcher, dispatcher, "--seed", seed, "--pause", pause, "--journal", journal, campaign->sheet,
+          blocks ? "--blocks" : (char *) NULL, (char *) NULL);
     _exit(121);
 }
 
@@ -187,6 +194,34 @@ static void free_campaign(struct campaign *campaign)
 {
     free(campaign->journal.at);
     free(campaign->books.at);
+    free(campaign->within.at);
+}
+
+static bool begins(const char *text, const char *word)
+{
+    return strncmp(text, word, strlen(word)) == 0;
+}
+
+/* From the log, which tells orders and replies in the journal's order, and where a block begins. */
+static struct bytes find_blocks(const char *log, size_t lines)
+{
+    struct bytes within = {calloc(lines + 2, 1), lines + 1};
+    size_t line = 0;
+    bool in_block = false, after_reply = false;
+    if (within.at == NULL)
+        fail(NULL, "no memory");
+    for (const char *at = log; at != NULL && line <= lines; at = strchr(at, '\n'), at += at != NULL) {
+        bool reply = begins(at, "  desk ") && begins(at + strlen("  desk NN"), " says: ");
+        if (reply || begins(at, "  to desk ")) {
+            in_block = in_block && reply;
+            within.at[line++] = in_block && after_reply;
+            after_reply = reply;
+        } else if (begins(at, "  -- a block of ")) {
+            in_block = true;
+            after_reply = false;
+        }
+    }
+    return within;
 }
 
 static struct campaign fly(const char *sheet, unsigned seed)
@@ -199,13 +234,23 @@ static struct campaign fly(const char *sheet, unsigned seed)
         fail(&campaign, "without a stop: status %d: %s", status, log.at);
     campaign.journal = read_file(journal);
     campaign.books = books_in(log);
+    campaign.within = find_blocks(log.at, campaign.journal.length / LINE);
     if (campaign.books.length == 0 || campaign.journal.length == 0 || campaign.journal.length % LINE != 0)
         fail(&campaign, "without a stop: no books, or no whole lines");
     free(log.at);
     return campaign;
 }
 
-/* Of some seeds the one with the longest journal: on a good day little happens. */
+/* On a good day little happens; on a day for blocks many replies come together. */
+static size_t hardness(const struct campaign *campaign)
+{
+    size_t hard = campaign->journal.length;
+    for (size_t line = 0; blocks && line < campaign->within.length; line++)
+        hard += campaign->within.at[line] != 0 ? LONGEST : 0;
+    return hard;
+}
+
+/* Of some seeds the hardest one whose journal is not too long. */
 static struct campaign fly_a_hard_one(const char *sheet, unsigned place, unsigned seeds)
 {
     unsigned first = 1000 * place;
@@ -213,7 +258,7 @@ static struct campaign fly_a_hard_one(const char *sheet, unsigned place, unsigne
     for (unsigned seed = first + 1; seed < first + seeds; seed++) {
         struct campaign other = fly(sheet, seed);
         bool better = other.journal.length <= LONGEST
-            && (other.journal.length > best.journal.length || best.journal.length > LONGEST);
+            && (hardness(&other) > hardness(&best) || best.journal.length > LONGEST);
         free_campaign(better ? &best : &other);
         if (better)
             best = other;
@@ -258,6 +303,7 @@ static void stop_at(const struct campaign *campaign, size_t cut)
         fail(campaign, "%s: no word of the tail, or a wrong one", after);
     met.cuts++;
     met.tails += cut % LINE != 0;
+    met.within += blocks && campaign->within.at[cut / LINE];
     met.sent_again += open;
     met.discarded += times(log.at, "says again: ");
     free(log.at);
@@ -362,6 +408,14 @@ static void check_variety(void)
             fail(NULL, "hardly any %c among the lines", *letter);
     if (met.called_off < met.campaigns / 10 || met.switches < met.campaigns / 4 || met.discarded < met.campaigns)
         fail(NULL, "hardly a way changed, a campaign called off, or a reply repeated");
+    if (blocks && met.within < met.cuts / 7)
+        fail(NULL, "hardly a stop within a block");
+}
+
+static void print_blocks(void)
+{
+    if (blocks)
+        printf("stops: replies in blocks, %lu of the stops within the lines of one\n", met.within);
 }
 
 static void bytes_mode(char **sheets)
@@ -387,7 +441,7 @@ static void bytes_mode(char **sheets)
         last = campaign;
     }
     free_campaign(&last);
-    if (met.campaigns >= 100)
+    if (met.campaigns >= 50)
         check_variety();
     printf("stops: %lu campaigns, each on its own sheet, stopped at every byte, %lu times, %lu of them within a line: "
            "the same books and journal\n"
@@ -397,6 +451,7 @@ static void bytes_mode(char **sheets)
            met.campaigns, met.cuts, met.tails, met.sent_again, met.discarded, met.letters['Q'], met.letters['U'],
            met.letters['Y'], met.letters['N'], met.letters['G'], met.letters['K'], met.called_off, met.switches,
            met.damaged, met.foreign, met.refused);
+    print_blocks();
 }
 
 /* Stopped by the disk (see disk.c). */
@@ -421,6 +476,7 @@ static void stop_in_write(const struct campaign *campaign, size_t room)
         fail(campaign, "not killed at byte %zu", room);
     check_prefix(campaign, room, "killed in a write");
     met.in_write++;
+    met.within += blocks && campaign->within.at[room / LINE];
 }
 
 static void stop_once(const struct campaign *campaign, size_t room)
@@ -471,6 +527,7 @@ static void disk_mode(char **sheets)
     printf("stops: %lu campaigns over a disk of short writes, at every byte killed within the write, %lu times, and full, %lu times: "
            "the same books and journal\n",
            met.campaigns, met.in_write, met.full);
+    print_blocks();
 }
 
 /* Killed at random moments. */
@@ -491,6 +548,7 @@ static void check_killed(const struct campaign *campaign, size_t before, struct 
     if (sent > orders_in(campaign, lines.length) - orders_in(campaign, before))
         fail(campaign, "killed: an order went out before its line was stored");
     met.tails += lines.length % LINE != 0;
+    met.within += blocks && campaign->within.at[lines.length / LINE];
     free(lines.at);
 }
 
@@ -535,15 +593,96 @@ static void kills_mode(unsigned long wanted, char **sheets)
     printf("stops: %lu campaigns killed %lu times while they ran, %lu times with part of a line written, %lu orders sent again, "
            "%lu repeated replies discarded: the same books and journal\n",
            met.campaigns, met.kills, met.tails, met.sent_again, met.discarded);
+    print_blocks();
+}
+
+/* Gone on in the other manner. */
+
+/* Of this booking's lines with such a letter that of the number; null if there is none. */
+static const char *line_of(struct bytes lines, const char *letters, int booking, unsigned number)
+{
+    for (size_t at = 0; at < lines.length; at += LINE)
+        if (strchr(letters, lines.at[at]) != NULL && atoi(lines.at + at + 1) == booking && --number == 0)
+            return lines.at + at;
+    return NULL;
+}
+
+/* What both asked of a desk it answered alike. */
+static void check_desks(const struct campaign *campaign, struct bytes lines)
+{
+    for (int booking = 1; booking <= 64; booking++) {
+        const char *one, *other;
+        for (unsigned number = 1; (one = line_of(lines, "QU", booking, number)) != NULL
+             && (other = line_of(campaign->journal, "QU", booking, number)) != NULL && *one == *other; number++)
+            if (*line_of(lines, "YNGK", booking, number) != *line_of(campaign->journal, "YNGK", booking, number))
+                fail(campaign, "desk %d answers order %u otherwise:\n%s\nnot\n%s", booking, number, lines.at,
+                     campaign->journal.at);
+    }
+}
+
+/* It must end well, and begin with what was stored. */
+static void check_changed(const struct campaign *campaign, const struct campaign *changed, size_t cut, int status)
+{
+    size_t whole = cut - cut % LINE;
+    const char *manner = blocks ? "with" : "without";
+    if (status != 0 || changed->books.length == 0)
+        fail(campaign, "cut at byte %zu, gone on %s blocks: status %d", cut, manner, status);
+    if (changed->journal.length < whole || changed->journal.length % LINE != 0
+        || memcmp(changed->journal.at, campaign->journal.at, whole) != 0)
+        fail(campaign, "cut at byte %zu, gone on %s blocks: the journal's lines were not kept", cut, manner);
+}
+
+/* The replies come at other moments then, so another campaign may come of it. Where it has ended nothing is left to do. */
+static void stop_and_change(const struct campaign *campaign, size_t cut)
+{
+    struct campaign changed = {.sheet = campaign->sheet, .seed = campaign->seed};
+    write_file(journal, campaign->journal.at, cut);
+    blocks = !blocks;
+    int status = run(campaign);
+    struct bytes log = read_file(output);
+    changed.journal = read_file(journal);
+    changed.books = books_in(log);
+    check_changed(campaign, &changed, cut, status);
+    check_desks(campaign, changed.journal);
+    blocks = !blocks;
+    check_end(&changed, run(campaign), "ended in the other manner");
+    met.changed++;
+    met.others += !same(changed.journal, campaign->journal);
+    met.within += campaign->within.at[cut / LINE];
+    free(log.at);
+    free_campaign(&changed);
+}
+
+static void mixed_mode(char **sheets)
+{
+    for (unsigned i = 0; sheets[i] != NULL; i++) {
+        for (int first = 0; first < 2; first++) {
+            blocks = first == 1;
+            struct campaign campaign = fly_a_hard_one(sheets[i], i + 1, 8);
+            met.campaigns++;
+            /* With each length of a tail in turn. */
+            for (size_t line = 0; line < campaign.journal.length / LINE; line++)
+                stop_and_change(&campaign, line * LINE + line % LINE);
+            free_campaign(&campaign);
+        }
+    }
+    if (met.others < met.changed / 10 || met.others == met.changed || met.within < met.changed / 15)
+        fail(NULL, "the other manner makes no difference, or too much; or hardly a stop within a block");
+    printf("stops: %lu campaigns stopped at every line and gone on with blocks where there were none, or without them, %lu times, "
+           "%lu of them within a block: each a right campaign, %lu of them another than without a stop\n",
+           met.campaigns, met.changed, met.within, met.others);
 }
 
 int main(int count, char **words)
 {
+    blocks = count > 1 && strcmp(words[1], "--blocks") == 0;
+    words += blocks;
+    count -= blocks;
     bool kills = count > 2 && strcmp(words[1], "kills") == 0;
     unsigned long wanted = kills ? strtoul(words[2], NULL, 10) : 0;
     char **rest = words + (kills ? 3 : 2);
     if (count - (rest - words) < 3) {
-        fprintf(stderr, "usage: stops (bytes | disk | kills COUNT) DISPATCHER FOLDER SHEET..\n");
+        fprintf(stderr, "usage: stops [--blocks] (bytes | disk | mixed | kills COUNT) DISPATCHER FOLDER SHEET..\n");
         return 2;
     }
     dispatcher = rest[0];
@@ -553,6 +692,8 @@ int main(int count, char **words)
         kills_mode(wanted, rest + 2);
     else if (strcmp(words[1], "disk") == 0)
         disk_mode(rest + 2);
+    else if (strcmp(words[1], "mixed") == 0)
+        mixed_mode(rest + 2);
     else
         bytes_mode(rest + 2);
     return 0;
