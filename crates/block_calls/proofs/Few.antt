@@ -26,7 +26,7 @@ use Rattle.event_lines.specs.declared.Line.the-variants.{Given, Misformed}
 use Rattle.block_calls.specs.Block.{keptOf, faultOf, blockOf}
 
 -- how many replies are awaited
-opens : Run → ℕ
+pub opens : Run → ℕ
 opens r = sum (λ b. awaits (code r b)) 64
 
 awaits-one : (c : ℕ) → awaits c ≤ 1
@@ -41,19 +41,19 @@ unfolding opens
 opens-few r = omega (arith, sum-most (λ b. awaits (code r b)) 1 64 (λ k h. awaits-one (code r k)))
 
 -- one reply fewer, and as many codes
-Fewer : Run → Run → Type 0
+abbrev pub Fewer : Run → Run → Type 0
 Fewer r t = (opens t + 1 ≡ opens r) × (length (t .code) ≡ 64)
 
 module _ (g : Network) (few : g .n ≤ 64) (r : Run) (size : length (r .code) ≡ 64) where
   put-fewer : (x v : ℕ) → x < g .n → awaits (code r x) ≡ 1 → awaits v ≡ 0 → Fewer r (put r x v)
-  unfolding Fewer opens code
+  unfolding opens code
   put-fewer x v h o n =
       let now : awaits (code (put r x v) x) ≡ 0 = rw (getD-set-same (r .code) x v 0 (omega arith)) n in
       (omega (arith, now, sum-one (λ b. awaits (code (put r x v) b)) (λ b. awaits (code r b)) 64 x (omega arith) (λ b d. ap awaits (getD-set-other (r .code) x b v 0 d))), length-set (r .code) x v ∙ size)
 
   -- the switch changes no code
   settle-fewer : (s : Run) → Fewer r s → Fewer r (settle g s)
-  unfolding settle Fewer opens code
+  unfolding settle opens code
   settle-fewer s f = by-cond (Fewer r) {t = toSwitch (standing g s) (here g s)} {a = turn s (firstLive g (standing g s))} {b = s} (λ e. f) (λ e. f)
 
   reply-fewer : (l x : ℕ) {t : Replied} → ReplyCase g r l x t → t .taken ≡ true → Fewer r (t .run)
@@ -64,14 +64,14 @@ module _ (g : Network) (few : g .n ≤ 64) (r : Run) (size : length (r .code) �
   reply-fewer l x (returned h m e) d = put-fewer x free h (rw m) refl
   reply-fewer l x (kept h m e) d = put-fewer x held h (rw m) refl
 
-  numbered-fewer : (l b : ℕ) → replyTo g r l b .taken ≡ true → Fewer r (replyTo g r l b .run)
+  pub numbered-fewer : (l b : ℕ) → replyTo g r l b .taken ≡ true → Fewer r (replyTo g r l b .run)
   unfolding replyTo
   numbered-fewer l zero d = clash true refl (sym d)
   numbered-fewer l (suc x) d = reply-fewer l x (reply-case g r l x) d
 
 module _ (g : Network) (few : g .n ≤ 64) where
   kept-fewer : (r : Run) → length (r .code) ≡ 64 → (lines : List Line) → length (keptOf g r lines) ≤ opens r
-  unfolding keptOf Fewer
+  unfolding keptOf
   kept-fewer r size [] = omega arith
   kept-fewer r size (Given l b ∷ lines) = elim (which (replyTo g r l b .taken)) [
     | inl e ↦ (let f = numbered-fewer g few r size l b e in rw e (omega (arith, f .0, kept-fewer (replyTo g r l b .run) (f .1) lines)))

@@ -1,4 +1,5 @@
 -- The laws of crate `block_calls`.
+pub mod Codes
 pub mod Taking
 pub mod Few
 pub mod Exits

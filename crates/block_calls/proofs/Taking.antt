@@ -1,16 +1,16 @@
 -- One turn of taking a block: what its next line is, what comes of it, and that what is left of the block gives the whole answer.
 -- Assumes nothing.
 use mathlib.Core.Path.{_≡_, refl, sym, ap, _∙_}
-use mathlib.Core.Bool.{true, false, not}
+use mathlib.Core.Bool.{true, false}
 use mathlib.Core.List.{List, [], _∷_}
 use Prim.Native.Nat.{ℕ, zero, suc, _+_, _-_, _/_, _≤_, _<_}
 use native.Mathlib.Nat.{sub-zero}
 use native.Mathlib.Omega.{arith}
 use lib.ListN.{length, take, drop, length-drop}
 use lib.Seq.{take-all, drop-drop}
-use borrow.Author.Tests.{not-true, not-false}
 use Rattle.bounded.proofs.Bools.{clash}
 use Rattle.network.specs.declared.Network.{Network}
+use Rattle.run.specs.Bytes.{bytesOf}
 use Rattle.run.specs.declared.Run.{Run}
 use Rattle.run.specs.declared.Replied.{Replied}
 use Rattle.run.proofs.Cases.{ReplyCase, misfit, confirmed, refused, again, returned, kept, reply-case}
@@ -20,11 +20,8 @@ use Rattle.event_lines.specs.declared.Line.{Line}
 use Rattle.event_lines.specs.declared.Line.the-variants.{Given, Misformed}
 use Rattle.event_lines.proofs.LineLaws.{other-size}
 use Rattle.journal_calls.specs.Journal.{isOrder}
-use Rattle.journal_calls.specs.Restart.{lineTaken, steppedBy}
-use Rattle.journal_calls.specs.declared.Stepped.{Stepped}
-use Rattle.journal_calls.proofs.Lines.{step-off, step-on, numbered-few}
-use Rattle.block_calls.specs.Block.{linesFrom, linesOf, replyOn, keptOf, faultOf, blockOf}
-use Rattle.block_calls.specs.declared.Block.{Block}
+use Rattle.journal_calls.proofs.Lines.{numbered-few}
+use Rattle.block_calls.specs.Block.{linesFrom, linesOf, replyOn, keptOf, faultOf, Block, blockOf}
 
 -- ---- the lines from a place on
 
@@ -69,14 +66,23 @@ unfolding replyOn replyTo
 order-misfits g r l zero o = refl
 order-misfits g r l (suc x) o = no-order g r l x (reply-case g r l x) o
 
--- what a journal's line takes, if it is not an order's
-pub as-line : (g : Network) (r : Run) (l b : ℕ) → isOrder l ≡ false → lineTaken g r (Given l b) ≡ replyOn g r (Given l b)
-unfolding lineTaken replyOn
-as-line g r l b o = rw o
-
 pub misformed-misfits : (g : Network) (r : Run) → replyOn g r Misformed .taken ≡ false
 unfolding replyOn
 misformed-misfits g r = refl
+
+-- what does not fit changes nothing
+unmoved : (g : Network) (r : Run) (l x : ℕ) {t : Replied} → ReplyCase g r l x t → t .taken ≡ false → t .run ≡ r
+unmoved g r l x misfit d = refl
+unmoved g r l x (confirmed h m e) d = clash true refl d
+unmoved g r l x (refused h m e z) d = clash true refl d
+unmoved g r l x (again h m e z) d = clash true refl d
+unmoved g r l x (returned h m e) d = clash true refl d
+unmoved g r l x (kept h m e) d = clash true refl d
+
+pub misfit-stays : (g : Network) (r : Run) (l b : ℕ) → replyTo g r l b .taken ≡ false → replyTo g r l b .run ≡ r
+unfolding replyTo
+misfit-stays g r l zero d = refl
+misfit-stays g r l (suc x) d = unmoved g r l x (reply-case g r l x) d
 
 -- the way stays within its limit
 pub reply-few : (g : Network) → g .a ≤ 16 → (r : Run) → r .way ≤ 16 → (line : Line) → replyOn g r line .run .way ≤ 16
@@ -128,13 +134,13 @@ module _ (g : Network) (block : List ℕ) where
     unfolding faultOf
     tail-after h n m = rw (lines-tail block at (omega arith) m, block-bad g r Misformed [] (misformed-misfits g r)) (with-kept _ (0 + k) (omega arith))
 
-    module _ (room : at + 6 ≤ length block) (line : Line) (el : line ≡ lineOf (take 6 (drop at block))) (u : Stepped) (eu : u ≡ steppedBy g r (replyOn g r line)) where
-      pub bad-line : not (u .taken) ≡ true → (f : ℕ) → f ≡ faultOf (line ∷ []) → record { kept = k; fault = f; run = r } ≡ rest at k r
-      bad-line n f ef =
-          let z = step-off g r (replyOn g r line) u eu (not-true (u .taken) n) in
-          rw (lines-more block at room, ← el, block-bad g r line (linesAt block (at + 6)) z, ef) (with-kept _ (0 + k) (omega arith))
+    module _ (room : at + 6 ≤ length block) (line : Line) (el : line ≡ lineOf (take 6 (drop at block))) where
+      pub bad-line : replyOn g r line .taken ≡ false → record { kept = k; fault = faultOf (line ∷ []); run = r } ≡ rest at k r
+      bad-line n = rw (lines-more block at room, ← el, block-bad g r line (linesAt block (at + 6)) n) (with-kept _ (0 + k) (omega arith))
 
-      pub one-kept : not (u .taken) ≡ false → rest (at + 6) (k + 1) (u .run) ≡ rest at k r
-      one-kept n =
-          let z = step-on g r (replyOn g r line) u eu (not-false (u .taken) n) in
-          rw (lines-more block at room, ← el, block-on g r line (linesAt block (at + 6)) (z .0), z .1) (with-kept _ _ (omega arith))
+      pub one-kept : replyOn g r line .taken ≡ true → rest (at + 6) (k + 1) (replyOn g r line .run) ≡ rest at k r
+      one-kept n = rw (lines-more block at room, ← el, block-on g r line (linesAt block (at + 6)) n) (with-kept _ _ (omega arith))
+
+-- what is told of a block, and the state's bytes
+pub told : (t b : Block) (state : List ℕ) → t ≡ b → state ≡ bytesOf (t .run) → ((t .kept ≡ b .kept) × (t .fault ≡ b .fault)) × (state ≡ bytesOf (b .run))
+told t b state e w = ((ap (λ (x : Block). x .kept) e, ap (λ (x : Block). x .fault) e), w ∙ ap (λ (x : Block). bytesOf (x .run)) e)

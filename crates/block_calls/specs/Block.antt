@@ -16,7 +16,6 @@ use Rattle.run.specs.declared.Replied.{Replied}
 use Rattle.guarantee.specs.Answers.{pack}
 use Rattle.guarantee.specs.Machine.{Asked, replied, replyTo, final}
 use Rattle.calls.specs.Calls.{networkIn, inOrder, refusedWith}
-use Rattle.block_calls.specs.declared.Block.{Block}
 
 -- so many lines of six bytes, and all lines of a block; fewer bytes at the end are a line too, an unfinished one, and so misformed
 unfoldable pub linesFrom : ℕ → List ℕ → List Line
@@ -44,12 +43,20 @@ faultOf (Given l b ∷ lines) = 9
 faultOf (Misformed ∷ lines) = 1
 
 -- a block taken: how many replies are kept, what is wrong with the next line, and the state after the kept ones
+pub record Block : Type 0 where
+  pub kept : ℕ
+  pub fault : ℕ
+  pub run : Run
+
 unfoldable pub blockOf : Network → Run → List Line → Block
 blockOf g r lines = let kept = keptOf g r lines in record { kept = length kept; fault = faultOf (drop (length kept) lines); run = final g r kept }
 
 -- accepted with the number taken, or the fault with its line
+unfoldable pub bitsOf : ℕ → ℕ → ℕ
+bitsOf kept fault = cond (eqb fault 0) (pack 6 0 kept) (pack 0 fault (kept + 1))
+
 unfoldable pub blockBits : Block → ℕ
-blockBits t = cond (eqb (t .fault) 0) (pack 6 0 (t .kept)) (pack 0 (t .fault) (t .kept + 1))
+blockBits t = bitsOf (t .kept) (t .fault)
 
 -- a block on a sheet's and a state's bytes: where the sheet is refused, or else the state is not sound, nothing is taken
 unfoldable pub blockIn : List ℕ → List ℕ → List ℕ → Block

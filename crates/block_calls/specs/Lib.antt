@@ -1,2 +1,3 @@
 -- The definitions of crate `block_calls`.
 pub mod Block
+pub mod Codes

@@ -1,62 +1,125 @@
 // What the call of a block does: replies in lines of six bytes, taken one after the other up to the first bad line. Crate campaign exports it.
+// A reply changes one byte of the state in place, and how the bookings stand is carried from line to line, so that a line costs little.
 use event_lines::Line;
 use journal::Entry;
-use journal_calls::Stepped;
 use network::Network;
-use run::Run;
 use standing::Standing;
 ghost use mathlib.Core.Path.{_≡_};
-ghost use mathlib.Core.List.{[], _∷_};
 ghost use Prim.Native.Nat.{_≤_};
+ghost use lib.ListN.{length};
 ghost use Rattle.run.specs.State.{standing};
-ghost use Rattle.journal_calls.specs.Restart.{steppedBy};
-ghost use Rattle.block_calls.specs.Block.{linesOf, replyOn, faultOf, blockOf, blockBits, blockCall, blockLeaves};
+ghost use Rattle.run.specs.Replies.{settle};
+ghost use Rattle.run.specs.Bytes.{bytesOf, runOf};
+ghost use Rattle.guarantee.specs.Machine.{replyTo};
+ghost use Rattle.block_calls.specs.Codes.{codeAfter, stoodBy};
+ghost use Rattle.block_calls.specs.Block.{linesOf, blockOf, bitsOf, blockCall, blockLeaves};
 
-// A block taken: how many replies are kept, what is wrong with the next line, and the state after the kept ones.
-pub struct Block {
+// Lines taken: how many replies are kept, and what is wrong with the next line.
+pub struct Taken {
     pub kept: usize,
     pub fault: u32,
-    pub run: Run,
 }
 
-// What is wrong with a line that is not kept: it is misformed, or its reply does not fit.
-fn fault(line: Line) -> u32
-    ensures { λ r. ⌜ r ≡ faultOf (line ∷ []) ⌝ }
-{
-    match line {
-        Line::Given(_, _) => 9,
-        Line::Misformed => 1,
-    }
+// Whether a reply was taken, and how the bookings stand after it.
+pub struct Stood {
+    pub taken: bool,
+    pub standing: Standing,
 }
 
-// Takes the reply of a line; an order's line has none.
-fn take_reply(g: Network, r: Run, s: Standing, line: Line) -> Stepped
-    requires { ⌜ (g .n ≤ 64) × (g .a ≤ 16) × (r .way ≤ 16) × (s ≡ standing g r) ⌝ }
-    ensures { λ t. ⌜ t ≡ steppedBy g r (replyOn g r line) ⌝ }
+// No code of a booking.
+const NONE: u8 = 5;
+
+// The code that a reply gives a booking of this code, NONE where it does not fit.
+fn code_after(code: u8, letter: u8, exposed: bool) -> u8
+    ensures { λ r. ⌜ r ≡ codeAfter code letter exposed ⌝ }
 {
-    let Line::Given(letter, _) = line else {
-        return Stepped {
+    if code == standing::REQUESTED {
+        if letter == b'Y' {
+            return standing::HELD;
+        }
+        if letter == b'N' {
+            return if exposed {
+                standing::LOST
+            } else {
+                standing::FREE
+            };
+        }
+    }
+    if code == standing::RETURNING {
+        if letter == b'G' {
+            return standing::FREE;
+        }
+        if letter == b'K' {
+            return standing::HELD;
+        }
+    }
+    NONE
+}
+
+// What follows a Y or an N, in the state's bytes.
+fn settle(g: Network, s: Standing, state: &mut [u8])
+    requires { ⌜ (g .a ≤ 16) × (length (now state) ≡ 65) × (runOf (now state) .way ≤ 16) × (s ≡ standing g (runOf (now state))) ⌝ }
+    ensures { λ _. ⌜ now (state .exit) ≡ bytesOf (settle g (runOf (now (state .entry)))) ⌝ }
+{
+    let run = run::load(state);
+    run::store(run.settle(g, s), state);
+}
+
+// Takes a reply in the state's bytes.
+fn take_reply(g: Network, s: Standing, letter: u8, booking: u32, state: &mut [u8]) -> Stood
+    requires { ⌜ (g .n ≤ 64) × (g .a ≤ 16) × (length (now state) ≡ 65) × (runOf (now state) .way ≤ 16) × (s ≡ standing g (runOf (now state))) ⌝ }
+    ensures told { λ t. ⌜ t ≡ stoodBy g (replyTo g (runOf (now (state .entry))) letter booking) ⌝ }
+    ensures left { λ _. ⌜ now (state .exit) ≡ bytesOf (replyTo g (runOf (now (state .entry))) letter booking .run) ⌝ }
+{
+    if booking == 0 {
+        return Stood {
             taken: false,
-            run: r,
-            standing: s,
-        };
-    };
-    if journal_calls::is_order(letter) {
-        return Stepped {
-            taken: false,
-            run: r,
             standing: s,
         };
     }
-    journal_calls::step(g, r, s, line)
+    let place = booking as usize;
+    if place > g.n {
+        return Stood {
+            taken: false,
+            standing: s,
+        };
+    }
+    let old = state[place];
+    let code = code_after(old, letter, sets::has(g.exposed, place - 1));
+    if code == NONE {
+        return Stood {
+            taken: false,
+            standing: s,
+        };
+    }
+    state[place] = code;
+    let moved = s.moved(sets::bit(place - 1), code);
+    if old == standing::RETURNING {
+        return Stood {
+            taken: true,
+            standing: moved,
+        };
+    }
+    if moved.requested != 0 {
+        return Stood {
+            taken: true,
+            standing: moved,
+        };
+    }
+    settle(g, moved, state);
+    Stood {
+        taken: true,
+        standing: moved,
+    }
 }
 
 // Takes a block's lines one after the other, up to the first bad one; what is left at the end is an unfinished line.
-fn take_lines(g: Network, r: Run, s: Standing, block: &[u8]) -> Block
-    requires { ⌜ (g .n ≤ 64) × (g .a ≤ 16) × (r .way ≤ 16) × (s ≡ standing g r) ⌝ }
-    ensures { λ t. ⌜ t ≡ blockOf g r (linesOf (now (block .entry))) ⌝ }
+fn take_lines(g: Network, s: Standing, block: &[u8], state: &mut [u8]) -> Taken
+    requires { ⌜ (g .n ≤ 64) × (g .a ≤ 16) × (length (now state) ≡ 65) × (runOf (now state) .way ≤ 16) × (s ≡ standing g (runOf (now state))) ⌝ }
+    ensures told { λ t. ⌜ (t .kept ≡ blockOf g (runOf (now (state .entry))) (linesOf (now (block .entry))) .kept)
+        × (t .fault ≡ blockOf g (runOf (now (state .entry))) (linesOf (now (block .entry))) .fault) ⌝ }
+    ensures left { λ _. ⌜ now (state .exit) ≡ bytesOf (blockOf g (runOf (now (state .entry))) (linesOf (now (block .entry))) .run) ⌝ }
 {
-    let mut run = r;
     let mut standing = s;
     let mut at = 0;
     let mut kept = 0;
@@ -65,15 +128,15 @@ fn take_lines(g: Network, r: Run, s: Standing, block: &[u8]) -> Block
         let entry = turn.entry;
         let Entry::Whole(line) = entry else {
             let fault = if at == block.len() { 0 } else { 1 };
-            return Block { kept, fault, run };
+            return Taken { kept, fault };
         };
-        let t = take_reply(g, run, standing, line);
+        let Line::Given(letter, booking) = line else {
+            return Taken { kept, fault: 1 };
+        };
+        let t = take_reply(g, standing, letter, booking, state);
         if !t.taken {
-            let fault = fault(line);
-            return Block { kept, fault, run };
+            return Taken { kept, fault: 9 };
         }
-        let after = t.run;
-        run = after;
         let stands = t.standing;
         standing = stands;
         at = turn.at;
@@ -82,14 +145,14 @@ fn take_lines(g: Network, r: Run, s: Standing, block: &[u8]) -> Block
 }
 
 // Accepted with the number taken, or the fault with its line.
-fn block_bits(t: Block) -> u32
-    requires { ⌜ (t .kept ≤ 64) × (t .fault ≤ 9) ⌝ }
-    ensures { λ r. ⌜ r ≡ blockBits t ⌝ }
+fn block_bits(kept: usize, fault: u32) -> u32
+    requires { ⌜ (kept ≤ 64) × (fault ≤ 9) ⌝ }
+    ensures { λ r. ⌜ r ≡ bitsOf kept fault ⌝ }
 {
-    if t.fault == 0 {
-        return calls::pack(6, 0, t.kept);
+    if fault == 0 {
+        return calls::pack(6, 0, kept);
     }
-    calls::pack(0, t.fault, t.kept + 1)
+    calls::pack(0, fault, kept + 1)
 }
 
 // Takes the replies of a block, up to its first bad line.
@@ -101,8 +164,6 @@ pub fn reply_block(sheet: &[u8], block: &[u8], state: &mut [u8]) -> u32
     if !c.sound {
         return c.bits;
     }
-    let t = take_lines(c.network, c.run, c.standing, block);
-    let run = t.run;
-    run::store(run, state);
-    block_bits(t)
+    let t = take_lines(c.network, c.standing, block, state);
+    block_bits(t.kept, t.fault)
 }

@@ -170,6 +170,9 @@ module _ (s bs : List ℕ) (c : Campaign) (e : c ≡ takenUp s bs) where
     unfolding takenUp
     taken-is = e ∙ rw in-order
 
+    pub run-is : c .run ≡ runOf bs
+    run-is = rw taken-is
+
     pub codes : length (c .run .code) ≡ 64
     unfolding runOf
     codes = rw taken-is (let n = size in omega (arith, length-drop 1 bs))

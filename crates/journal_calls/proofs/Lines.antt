@@ -32,7 +32,7 @@ use Rattle.event_lines.specs.declared.Line.{Line}
 use Rattle.event_lines.specs.declared.Line.the-variants.{Given, Misformed}
 use Rattle.event_lines.proofs.LineLaws.{line-length}
 use Rattle.journal_calls.specs.Journal.{isOrder, hasLine, journalLineCall, journalLineLeaves}
-use Rattle.journal_calls.specs.Restart.{due, orderTaken, lineTaken, steppedBy, stepped}
+use Rattle.journal_calls.specs.Restart.{due, orderTaken, lineTaken, stepped}
 use Rattle.journal_calls.specs.declared.Stepped.{Stepped}
 
 -- a number from 1 and an index
@@ -115,12 +115,6 @@ module _ (g : Network) (r : Run) (l b : ℕ) (o : Bool) (eo : o ≡ isOrder l) (
   unfolding lineTaken
   by-reply z p = rw (sym eo ∙ z) p
 
--- what is not taken leads nowhere
-pub no-step : (g : Network) (r : Run) (s : Standing) → s ≡ standing g r → (t : Replied) → t .taken ≡ false
-    → _≡_ {A = Stepped} (record { taken = false; run = r; standing = s }) (steppedBy g r t)
-unfolding steppedBy
-no-step g r s e t n = rw (n, e)
-
 -- ---- how the bookings stand after it
 
 -- only booking b has another code
@@ -171,7 +165,8 @@ module _ (g : Network) (few : g .n ≤ 64) (r : Run) (size : length (r .code) �
 
   module _ (l b : ℕ) (t : Replied) (et : t ≡ lineTaken g r (Given l b)) (s : Standing) (es : s ≡ standing g r) where
     pub not-taken : not (t .taken) ≡ true → _≡_ {A = Stepped} (record { taken = false; run = r; standing = s }) (stepped g r (Given l b))
-    not-taken n = no-step g r s es _ (rw (← et) (not-true (t .taken) n))
+    unfolding stepped
+    not-taken n = let z : lineTaken g r (Given l b) .taken ≡ false = rw (← et) (not-true (t .taken) n) in rw (z, es)
 
     module _ (n : not (t .taken) ≡ false) where
       is-taken : lineTaken g r (Given l b) .taken ≡ true
@@ -183,7 +178,7 @@ module _ (g : Network) (few : g .n ≤ 64) (r : Run) (size : length (r .code) �
 
       pub was-taken : (m : Standing) → m ≡ moved s (2 ^ (b - 1)) (getD (t .run .code) (b - 1) 0)
           → _≡_ {A = Stepped} (record { taken = true; run = t .run; standing = m }) (stepped g r (Given l b))
-      unfolding steppedBy
+      unfolding stepped
       was-taken m em =
           let k = line-moves l b is-taken .1 in
           let v : ℕ = getD (lineTaken g r (Given l b) .run .code) (b - 1) 0 in
@@ -191,19 +186,19 @@ module _ (g : Network) (few : g .n ≤ 64) (r : Run) (size : length (r .code) �
           moved-is (r .code) (g .n) (b - 1) v s few (k .booking) size es ∙ ap (λ (codes : List ℕ). standingOf codes (g .n)) (sym (k .codes)) in
           rw (is-taken, ← w, em, et)
 
--- what a step says of what was to be taken
-module _ (g : Network) (r : Run) (t : Replied) (u : Stepped) (eu : u ≡ steppedBy g r t) where
-  pub step-off : u .taken ≡ false → t .taken ≡ false
-  unfolding steppedBy
-  step-off n = elim (which (t .taken)) [
+-- what a step says of its line
+module _ (g : Network) (r : Run) (line : Line) (u : Stepped) (eu : u ≡ stepped g r line) where
+  pub step-off : u .taken ≡ false → lineTaken g r line .taken ≡ false
+  unfolding stepped
+  step-off n = elim (which (lineTaken g r line .taken)) [
     | inl z ↦ clash (u .taken) (ap (λ (v : Stepped). v .taken) eu ∙ rw z) n
     | inr z ↦ z
   ]
 
-  pub step-on : u .taken ≡ true → (t .taken ≡ true) × (u .run ≡ t .run) × (u .standing ≡ standing g (u .run))
-  unfolding steppedBy
-  step-on n = elim (which (t .taken)) [
-    | inl z ↦ (let e : u ≡ record { taken = true; run = t .run; standing = standing g (t .run) } = eu ∙ rw z in
+  pub step-on : u .taken ≡ true → (lineTaken g r line .taken ≡ true) × (u .run ≡ lineTaken g r line .run) × (u .standing ≡ standing g (u .run))
+  unfolding stepped
+  step-on n = elim (which (lineTaken g r line .taken)) [
+    | inl z ↦ (let e : u ≡ record { taken = true; run = lineTaken g r line .run; standing = standing g (lineTaken g r line .run) } = eu ∙ rw z in
         (z, ap (λ (v : Stepped). v .run) e, ap (λ (v : Stepped). v .standing) e ∙ ap (standing g) (sym (ap (λ (v : Stepped). v .run) e))))
     | inr z ↦ clash (u .taken) n (ap (λ (v : Stepped). v .taken) eu ∙ rw z)
   ]

@@ -59,10 +59,10 @@ module _ (g : Network) (j : List ℕ) where
 
     pub replay-wrong : not (u .taken) ≡ true → record { wrong = i; run = r } ≡ rest at i r
     unfolding replayFrom
-    replay-wrong n = let z = step-off g r (lineTaken g r line) u eu (not-true (u .taken) n) in rw (one, ← el, z)
+    replay-wrong n = let z = step-off g r line u eu (not-true (u .taken) n) in rw (one, ← el, z)
 
     pub replay-on : not (u .taken) ≡ false → rest (at + 6) (i + 1) (u .run) ≡ rest at i r
     unfolding replayFrom
     replay-on n =
-        let z = step-on g r (lineTaken g r line) u eu (not-false (u .taken) n) in
+        let z = step-on g r line u eu (not-false (u .taken) n) in
         rw (one, ← el, z .0, z .1) (ap (λ (s : List ℕ). replayFrom ((length j - (at + 6)) / 6) (i + 1) g (lineTaken g r line .run) s) (sym (drop-drop 6 at j)))

@@ -41,12 +41,11 @@ unfoldable pub lineTaken : Network → Run → Line → Replied
 lineTaken g r (Given l b) = cond (isOrder l) (orderTaken (next g r) l b) (replyTo g r l b)
 lineTaken g r Misformed = misfits r
 
--- the same with how the bookings stand then, so that they need not be looked at again; what is not taken leads nowhere
-unfoldable pub steppedBy : Network → Run → Replied → Stepped
-steppedBy g r t = cond (t .taken) (record { taken = true; run = t .run; standing = standing g (t .run) }) (record { taken = false; run = r; standing = standing g r })
-
-abbrev pub stepped : Network → Run → Line → Stepped
-stepped g r line = steppedBy g r (lineTaken g r line)
+-- the same with how the bookings stand then, so that they need not be looked at again; a line that is not taken leads nowhere
+unfoldable pub stepped : Network → Run → Line → Stepped
+stepped g r line =
+    let t = lineTaken g r line in
+    cond (t .taken) (record { taken = true; run = t .run; standing = standing g (t .run) }) (record { taken = false; run = r; standing = standing g r })
 
 -- so many lines, of which the first has number i: the number of the first wrong one, or 0, and the state after those before it
 unfoldable pub replayFrom : ℕ → ℕ → Network → Run → List ℕ → Replayed

@@ -24,16 +24,16 @@ pub struct Replayed {
 }
 
 // A line taken, or not: the state after it, and how the bookings stand then.
-pub struct Stepped {
-    pub taken: bool,
-    pub run: Run,
-    pub standing: Standing,
+struct Stepped {
+    taken: bool,
+    run: Run,
+    standing: Standing,
 }
 
 // ---- a line
 
 // Whether a line with this letter is an order's.
-pub fn is_order(letter: u8) -> bool
+fn is_order(letter: u8) -> bool
     ensures { λ r. ⌜ r ≡ isOrder letter ⌝ }
 {
     if letter == b'Q' {
@@ -140,8 +140,8 @@ fn stand_after(s: Standing, after: Run, b: usize) -> Standing
     s.moved(sets::bit(b), code[b])
 }
 
-// One line: taken or not, and how the bookings stand then.
-pub fn step(g: Network, r: Run, s: Standing, line: Line) -> Stepped
+// One line of the replay.
+fn step(g: Network, r: Run, s: Standing, line: Line) -> Stepped
     requires { ⌜ (g .n ≤ 64) × (g .a ≤ 16) × (r .way ≤ 16) × (s ≡ standing g r) ⌝ }
     ensures { λ t. ⌜ t ≡ stepped g r line ⌝ }
 {

@@ -172,7 +172,7 @@ impl Run {
 
     // What follows a Y or an N: where nothing is requested and the current way has a lost booking, the first live way becomes current,
     // or 0 if there is none.
-    fn settle(self, g: Network, s: Standing) -> Run
+    pub fn settle(self, g: Network, s: Standing) -> Run
         requires { ⌜ (g .a ≤ 16) × (self .way ≤ 16) × (s ≡ standing g self) ⌝ }
         ensures { λ r. ⌜ r ≡ settle g self ⌝ }
     {

@@ -23,8 +23,7 @@ use Rattle.guarantee.specs.Counted.{accepts}
 use Rattle.guarantee.proofs.Moved.{kind-pack, place-pack}
 use Rattle.guarantee.proofs.Whole.{travel}
 use Rattle.journal_calls.specs.Journal.{isOrder, callOn, callsFrom}
-use Rattle.block_calls.specs.Block.{linesFrom, linesOf, replyOn, keptOf, blockOf, blockBits}
-use Rattle.block_calls.specs.declared.Block.{Block}
+use Rattle.block_calls.specs.Block.{linesFrom, linesOf, replyOn, keptOf, Block, blockOf, bitsOf, blockBits}
 use Rattle.block_calls.proofs.Taking.{order-misfits}
 use Rattle.block_calls.proofs.Few.{kept-few, fault-few}
 use Rattle.whole_campaign.specs.Calls.{Call, single, block, singles, givesBy, leavesBy}
@@ -74,7 +73,7 @@ module _ (g : Network) where
 
 -- and the answer tells how many there are
 kept-told : (t : Block) → t .kept ≤ 64 → t .fault ≤ 9 → keptBy (blockBits t) ≡ t .kept
-unfolding keptBy blockBits accepts
+unfolding keptBy blockBits bitsOf accepts
 kept-told t h f = elim (which (eqb (t .fault) 0)) [
   | inl e ↦ rw (e, kind-pack 6 0 (t .kept) (omega arith) (omega arith), place-pack 6 0 (t .kept) (omega arith))
   | inr e ↦ rw (e, kind-pack 0 (t .fault) (t .kept + 1) (omega arith) (omega arith), place-pack 0 (t .fault) (t .kept + 1) (omega arith)) (omega arith)

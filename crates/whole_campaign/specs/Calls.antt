@@ -8,7 +8,6 @@ use Rattle.run.specs.declared.Run.{Run}
 use Rattle.guarantee.specs.Machine.{Asked, answer, after}
 use Rattle.calls.specs.Calls.{askedCall, askedLeaves}
 use Rattle.block_calls.specs.Block.{linesOf, blockOf, blockBits, blockCall, blockLeaves}
-use Rattle.block_calls.specs.declared.Block.{Block}
 
 pub data Call : Type 0 where
   single : Asked → Call

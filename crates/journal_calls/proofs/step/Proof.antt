@@ -6,7 +6,7 @@ use lib.ListN.{length}
 use mir.Syntax.{w8}
 use borrow.Author.Needs.{needs}
 use Rattle.bounded.proofs.Arrays.{field-length}
-use Rattle.journal_calls.specs.Restart.{lineTaken, steppedBy}
+use Rattle.journal_calls.specs.Restart.{lineTaken, stepped}
 use Rattle.journal_calls.proofs.Lines.{not-taken, booking-few, was-taken}
 use Rattle.journal_calls.proofs.step.Statement.{statement}
 use Rattle.journal_calls.proofs.step.Tie as tie
@@ -27,7 +27,7 @@ enum-told : tie.Need-enum-told
 enum-told c = search needs
 
 returns : tie.Need-returns
-unfolding steppedBy lineTaken
+unfolding stepped lineTaken
 returns c = let p = c .before .before .pre in rw (c .enum-told .given .1, p .3)
 
 take-line-requires : tie.Need-take-line-requires
