@@ -7,7 +7,7 @@ use Prim.Native.Nat.{ℕ, _≤_}
 use lib.ListN.{length}
 use Rattle.run.specs.State.{standing}
 use Rattle.run.specs.Bytes.{bytesOf, runOf}
-use Rattle.calls.specs.Calls.{networkIn, takenUp, lookedAt}
+use Rattle.calls.specs.Calls.{networkIn, takenUp}
 use Rattle.calls.specs.declared.Campaign.{Campaign}
 use Rattle.calls.proofs.Exits.{not-taken, in-order, size, taken-is, run-is, codes, ready}
 use Rattle.block_calls.proofs.Few.{kept-few, fault-few}

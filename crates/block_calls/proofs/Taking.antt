@@ -11,6 +11,7 @@ use lib.Seq.{take-all, drop-drop}
 use Rattle.bounded.proofs.Bools.{clash}
 use Rattle.network.specs.declared.Network.{Network}
 use Rattle.run.specs.Bytes.{bytesOf}
+use Rattle.run.specs.Replies.{misfits}
 use Rattle.run.specs.declared.Run.{Run}
 use Rattle.run.specs.declared.Replied.{Replied}
 use Rattle.run.proofs.Cases.{ReplyCase, misfit, confirmed, refused, again, returned, kept, reply-case}
@@ -21,7 +22,7 @@ use Rattle.event_lines.specs.declared.Line.the-variants.{Given, Misformed}
 use Rattle.event_lines.proofs.LineLaws.{other-size}
 use Rattle.journal_calls.specs.Journal.{isOrder}
 use Rattle.journal_calls.proofs.Lines.{numbered-few}
-use Rattle.block_calls.specs.Block.{linesFrom, linesOf, replyOn, keptOf, faultOf, Block, blockOf}
+use Rattle.block_calls.specs.Block.{linesFrom, linesOf, keptOf, faultOf, Block, blockOf}
 
 -- ---- the lines from a place on
 
@@ -50,6 +51,11 @@ module _ (block : List ℕ) where
       rw (z, drop-drop 6 at block)
 
 -- ---- a line's reply
+
+-- what comes of a line's reply; a misformed line has none
+unfoldable pub replyOn : Network → Run → Line → Replied
+replyOn g r (Given l b) = replyTo g r l b
+replyOn g r Misformed = misfits r
 
 -- an order's letter is no reply's
 no-order : (g : Network) (r : Run) (l x : ℕ) {t : Replied} → ReplyCase g r l x t → isOrder l ≡ true → t .taken ≡ false

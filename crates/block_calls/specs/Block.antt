@@ -9,7 +9,6 @@ use Rattle.event_lines.specs.Line.{lineOf}
 use Rattle.event_lines.specs.declared.Line.{Line}
 use Rattle.event_lines.specs.declared.Line.the-variants.{Given, Misformed}
 use Rattle.network.specs.declared.Network.{Network}
-use Rattle.run.specs.Replies.{misfits}
 use Rattle.run.specs.Bytes.{bytesOf, runOf}
 use Rattle.run.specs.declared.Run.{Run}
 use Rattle.run.specs.declared.Replied.{Replied}
@@ -24,11 +23,6 @@ linesFrom (suc more) rest = lineOf (take 6 rest) ∷ linesFrom more (drop 6 rest
 
 unfoldable pub linesOf : List ℕ → List Line
 linesOf block = linesFrom ((length block + 5) / 6) block
-
--- what comes of a line's reply; a misformed line has none
-unfoldable pub replyOn : Network → Run → Line → Replied
-replyOn g r (Given l b) = replyTo g r l b
-replyOn g r Misformed = misfits r
 
 -- the replies that are kept, as calls made singly: those before the first line that is misformed or does not fit
 unfoldable pub keptOf : Network → Run → List Line → List Asked

@@ -2,8 +2,7 @@
 -- Assumes nothing.
 use mathlib.Core.Path.{_≡_, refl}
 use mathlib.Core.Logic.{inl, inr}
-use mathlib.Core.Bool.{true, false}
-use mathlib.Core.List.{List, [], _∷_, _++_, map}
+use mathlib.Core.List.{List, _∷_, map}
 use Prim.Native.Nat.{ℕ, zero, suc, _+_, _*_, _≤_}
 use native.Mathlib.Omega.{arith}
 use lib.ListN.{length, take, drop}
@@ -15,7 +14,7 @@ use Rattle.event_lines.specs.Line.{lineOf}
 use Rattle.event_lines.specs.declared.Line.{Line}
 use Rattle.event_lines.specs.declared.Line.the-variants.{Given, Misformed}
 use Rattle.event_lines.proofs.LineLaws.{read-text}
-use Rattle.guarantee.specs.Machine.{Asked, replied, replyTo}
+use Rattle.guarantee.specs.Machine.{Asked, replyTo}
 use Rattle.guarantee.proofs.Numbers.{taken-small}
 use Rattle.journal_calls.specs.Journal.{journalOf}
 use Rattle.block_calls.specs.Block.{linesFrom, keptOf}

@@ -2,4 +2,5 @@
 pub mod Lists
 pub mod Parts
 pub mod Whole
+pub mod Given
 pub mod Playing

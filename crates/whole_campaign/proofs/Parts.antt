@@ -3,9 +3,9 @@
 -- Assumes nothing.
 use mathlib.Core.Path.{_≡_, refl, sym, ap, ap₂, _∙_}
 use mathlib.Core.Logic.{inl, inr}
-use mathlib.Core.Bool.{true, false}
+use mathlib.Core.Bool.{false}
 use mathlib.Core.List.{List, [], _∷_, _++_, map}
-use Prim.Native.Nat.{ℕ, zero, suc, _+_, _-_, _/_, _≤_}
+use Prim.Native.Nat.{ℕ, zero, suc, _+_, _/_, _≤_}
 use native.Mathlib.Omega.{arith}
 use lib.Dec.{eqb}
 use lib.ListN.{length, take, drop}
@@ -17,14 +17,14 @@ use Rattle.run.proofs.Facts.{Sound}
 use Rattle.event_lines.specs.Line.{lineOf}
 use Rattle.event_lines.specs.declared.Line.{Line}
 use Rattle.event_lines.specs.declared.Line.the-variants.{Given, Misformed}
-use Rattle.guarantee.specs.Answers.{pack, placeOf, replyBits}
+use Rattle.guarantee.specs.Answers.{pack, replyBits}
 use Rattle.guarantee.specs.Machine.{Asked, replied, replyTo, answer, after, machineAnswers, final}
 use Rattle.guarantee.specs.Counted.{accepts}
 use Rattle.guarantee.proofs.Moved.{kind-pack, place-pack}
 use Rattle.guarantee.proofs.Whole.{travel}
 use Rattle.journal_calls.specs.Journal.{isOrder, callOn, callsFrom}
-use Rattle.block_calls.specs.Block.{linesFrom, linesOf, replyOn, keptOf, Block, blockOf, bitsOf, blockBits}
-use Rattle.block_calls.proofs.Taking.{order-misfits}
+use Rattle.block_calls.specs.Block.{linesFrom, linesOf, keptOf, Block, blockOf, bitsOf, blockBits}
+use Rattle.block_calls.proofs.Taking.{replyOn, order-misfits}
 use Rattle.block_calls.proofs.Few.{kept-few, fault-few}
 use Rattle.whole_campaign.specs.Calls.{Call, single, block, singles, givesBy, leavesBy}
 use Rattle.whole_campaign.specs.Lists.{answersBy}
@@ -130,7 +130,7 @@ module _ (g : Network) (ok : Passes g) where
     calls-told (single q) = refl
     calls-told (block lines) = rw (told-kept lines) (kept-calls g ((length lines + 5) / 6) r lines)
 
-    answers-told : (c : Call) → answersIn c (givesBy g r c) ≡ machineAnswers g r (parts g r c)
+    pub answers-told : (c : Call) → answersIn c (givesBy g r c) ≡ machineAnswers g r (parts g r c)
     unfolding answersIn givesBy parts machineAnswers linesOf
     answers-told (single q) = refl
     answers-told (block lines) = rw (told-kept lines, kept-calls g ((length lines + 5) / 6) r lines) (kept-answers g r (linesOf lines))

@@ -24,7 +24,7 @@ use Rattle.run.specs.Bytes.{bytesOf}
 use Rattle.run.specs.declared.Run.{Run}
 use Rattle.run.proofs.Facts.{Sound}
 use Rattle.guarantee.specs.Machine.{Asked, nextOrder, answer, machineAnswers, final}
-use Rattle.guarantee.specs.Calls.{callBits, left, answersTo, orderAfter}
+use Rattle.guarantee.specs.Calls.{callBits, answersTo, orderAfter}
 use Rattle.guarantee.specs.Counted.{ends, waySize, waySizes}
 use Rattle.guarantee.specs.Guarantee.{Guarantee}
 use Rattle.guarantee.proofs.Bytes.{same-run, fine as sound-bytes, call-bits, call-bytes, calls-left}
@@ -81,7 +81,7 @@ module _ (s : List ℕ) (e : sheetPasses s ≡ true) where
     gives-is (single q) = asked-is (bytesOf r) q ∙ call-bits (networkIn s) passing r k q
     gives-is (block lines) = rw (order, same-run r)
 
-    leaves-is : (c : Call) → leaves s (bytesOf r) c ≡ bytesOf (leavesBy (networkIn s) r c)
+    pub leaves-is : (c : Call) → leaves s (bytesOf r) c ≡ bytesOf (leavesBy (networkIn s) r c)
     unfolding leaves leavesBy askedLeaves blockLeaves blockIn
     leaves-is (single q) = rw e (call-bytes (networkIn s) passing r k q)
     leaves-is (block lines) = rw (order, same-run r)
@@ -89,7 +89,7 @@ module _ (s : List ℕ) (e : sheetPasses s ≡ true) where
   then : (r : Run) → Sound (networkIn s) r → (c : Call) → Sound (networkIn s) (leavesBy (networkIn s) r c)
   then r k c = sound-after (networkIn s) passing r k c
 
-  answers-is : (r : Run) → Sound (networkIn s) r → (cs : List Call) → answersOn s (bytesOf r) cs ≡ answersBy (networkIn s) r cs
+  pub answers-is : (r : Run) → Sound (networkIn s) r → (cs : List Call) → answersOn s (bytesOf r) cs ≡ answersBy (networkIn s) r cs
   unfolding answersOn answersBy
   answers-is r k [] = refl
   answers-is r k (c ∷ cs) = ap₂ _∷_ (gives-is r k c) (rw (leaves-is r k c) (answers-is (leavesBy (networkIn s) r c) (then r k c) cs))
@@ -99,7 +99,7 @@ module _ (s : List ℕ) (e : sheetPasses s ≡ true) where
   states-is r k [] = refl
   states-is r k (c ∷ cs) = ap₂ _∷_ (leaves-is r k c) (rw (leaves-is r k c) (states-is (leavesBy (networkIn s) r c) (then r k c) cs))
 
-  left-is : (r : Run) → Sound (networkIn s) r → (cs : List Call) → leftOn s (bytesOf r) cs ≡ bytesOf (finalBy (networkIn s) r cs)
+  pub left-is : (r : Run) → Sound (networkIn s) r → (cs : List Call) → leftOn s (bytesOf r) cs ≡ bytesOf (finalBy (networkIn s) r cs)
   unfolding leftOn finalBy
   left-is r k [] = refl
   left-is r k (c ∷ cs) = rw (leaves-is r k c) (left-is (leavesBy (networkIn s) r c) (then r k c) cs)

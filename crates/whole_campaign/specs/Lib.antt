@@ -2,5 +2,6 @@
 pub mod Calls
 pub mod Lists
 pub mod Singly
+pub mod Given
 pub mod Whole
 pub mod Play

@@ -1,7 +1,5 @@
 -- `block_calls::block_bits` meets its contract.
 -- Assumes nothing.
-use mathlib.Core.Path.{_≡_}
-use native.Mathlib.Omega.{arith}
 use borrow.Author.Needs.{needs}
 use borrow.Author.Tests.{eq-eqb, ne-eqb}
 use Rattle.block_calls.specs.Block.{bitsOf}

@@ -4,7 +4,6 @@ use mathlib.Core.Path.{ap, _∙_}
 use borrow.Author.Needs.{needs}
 use Rattle.run.specs.Bytes.{bytesOf}
 use Rattle.run.specs.Replies.{settle}
-use Rattle.run.specs.declared.Run.{Run}
 use Rattle.block_calls.proofs.settle.Statement.{statement}
 use Rattle.block_calls.proofs.settle.Tie as tie
 

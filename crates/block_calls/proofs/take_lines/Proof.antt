@@ -3,7 +3,7 @@
 use mathlib.Core.Path.{_≡_, refl, sym, ap, _∙_}
 use mathlib.Core.Bool.{true, false}
 use mathlib.Core.List.{List}
-use Prim.Native.Nat.{ℕ, suc, _+_, _-_, _*_, _≤_}
+use Prim.Native.Nat.{ℕ, _+_, _-_, _*_, _≤_}
 use native.Mathlib.Omega.{arith}
 use lib.ListN.{length, take, drop}
 use borrow.Author.Needs.{needs}
@@ -17,12 +17,12 @@ use Rattle.event_lines.specs.Line.{lineOf}
 use Rattle.event_lines.specs.declared.Line.the-variants.{Given, Misformed}
 use Rattle.guarantee.specs.Machine.{replyTo}
 use Rattle.journal_calls.proofs.Replaying.{none-left, one-read}
-use Rattle.block_calls.specs.Block.{linesOf, replyOn, faultOf, blockOf}
+use Rattle.block_calls.specs.Block.{linesOf, faultOf, blockOf}
 use Rattle.block_calls.specs.Codes.{stoodBy}
 use Rattle.block_calls.specs.declared.Stood.{Stood}
 use Rattle.block_calls.proofs.Codes.{bytes-run, bytes-size, same-run, codes-size}
 use Rattle.block_calls.proofs.Few.{numbered-fewer}
-use Rattle.block_calls.proofs.Taking.{misformed-misfits, misfit-stays, reply-few, rest, all-left, none-after, tail-after, bad-line, one-kept, told}
+use Rattle.block_calls.proofs.Taking.{replyOn, misformed-misfits, misfit-stays, reply-few, rest, all-left, none-after, tail-after, bad-line, one-kept, told}
 use Rattle.block_calls.proofs.take_lines.Statement.{statement}
 use Rattle.block_calls.proofs.take_lines.Tie as tie
 
