@@ -8,7 +8,7 @@ use Prim.Native.Nat.{ℕ, zero, suc, _-_, _^_, _≤_, _<_}
 use native.Mathlib.Omega.{arith}
 use lib.Dec.{eqb}
 use lib.ListN.{length, getD, set, length-set}
-use borrow.Author.Tests.{eqb-true, lt-ltb, le-ltb}
+use borrow.Author.Tests.{eqb-true, eqb-false, eq-eqb, ne-eqb, lt-ltb, le-ltb}
 use Rattle.bounded.proofs.Bools.{which, and-l, by-cond}
 use Rattle.network.specs.Network.{exposed}
 use Rattle.network.specs.declared.Network.{Network}
@@ -23,7 +23,7 @@ use Rattle.run.specs.declared.Replied.{Replied}
 use Rattle.run.proofs.Exits.{settle-wait}
 use Rattle.run.proofs.Steps.{moved-stands}
 use Rattle.guarantee.specs.Machine.{replyTo}
-use Rattle.block_calls.specs.Codes.{none, codeAfter, stoodBy}
+use Rattle.block_calls.specs.Codes.{none, codeAfter, followed, stoodBy}
 use Rattle.block_calls.specs.declared.Stood.{Stood}
 
 -- ---- the code that a reply gives its booking, and the state after the reply
@@ -100,12 +100,26 @@ settle-standing : (g : Network) (r : Run) → standing g (settle g r) ≡ standi
 unfolding settle
 settle-standing g r = by-cond (λ (s : Run). standing g s ≡ standing g r) {t = toSwitch (standing g r) (here g r)} {a = turn r (firstLive g (standing g r))} {b = r} (λ e. refl) (λ e. refl)
 
-pub settle-size : (g : Network) (bs : List ℕ) → length bs ≡ 65 → length (bytesOf (settle g (runOf bs))) ≡ 65
-unfolding settle bytesOf
-settle-size g bs h =
-    let r : Run = runOf bs in
-    let n : length (r .code) ≡ 64 = codes-size bs h in
-    by-cond (λ (s : Run). length (s .way ∷ s .code) ≡ 65) {t = toSwitch (standing g r) (here g r)} {a = turn r (firstLive g (standing g r))} {b = r} (λ e. omega arith) (λ e. omega arith)
+-- what follows a reply, at each exit
+module _ (g : Network) (bs : List ℕ) (size : length bs ≡ 65) (s : Standing) (es : s ≡ standing g (runOf bs)) (old : ℕ) where
+  pub after-return : old ≡ returning → bs ≡ bytesOf (followed g old (runOf bs))
+  unfolding followed
+  after-return o = rw (eq-eqb old returning o) (sym (bytes-run bs size))
+
+  pub after-request : old ≢ returning → (after : List ℕ) → after ≡ bytesOf (settle g (runOf bs)) → after ≡ bytesOf (followed g old (runOf bs))
+  unfolding followed
+  after-request o after e = rw (ne-eqb old returning o) e
+
+  pub still-waits : old ≢ returning → s .requested ≢ 0 → bs ≡ bytesOf (followed g old (runOf bs))
+  still-waits o w = after-request o bs (sym (bytes-run bs size) ∙ ap bytesOf (settle-wait g (runOf bs) s es w))
+
+  pub follow-size : length (bytesOf (followed g old (runOf bs))) ≡ 65
+  unfolding followed settle
+  follow-size =
+      let r : Run = runOf bs in
+      let n = bytes-size r (codes-size bs size) in
+      by-cond (λ (x : Run). length (bytesOf x) ≡ 65) {t = eqb old returning} {a = r} {b = settle g r} (λ e. n)
+      (λ e. by-cond (λ (x : Run). length (bytesOf x) ≡ 65) {t = toSwitch (standing g r) (here g r)} {a = turn r (firstLive g (standing g r))} {b = r} (λ z. bytes-size (turn r (firstLive g (standing g r))) (codes-size bs size)) (λ z. n))
 
 -- whether the reply to booking number k was taken, how the bookings stand, and the state's bytes
 abbrev pub Out : Network → List ℕ → ℕ → ℕ → Stood → List ℕ → Type 0
@@ -173,18 +187,12 @@ module _ (g : Network) (few : g .n ≤ 64) (bs : List ℕ) (size : length bs ≡
       pub put-standing : m ≡ standing g (runOf (set bs k c))
       put-standing = rw run-put stands
 
-      -- a return was answered
-      pub returned-out : getD bs k 0 ≡ returning → Out g bs l k (record { taken = true; standing = m }) (set bs k c)
-      unfolding stoodBy
-      returned-out o = let e = by-return g (runOf bs) (k - 1) coded some (sym old-code ∙ o) in (rw (e, ← stands), rw e byte-put)
-
-      -- the last request was answered
-      pub settled-out : getD bs k 0 ≢ returning → (after : List ℕ) → after ≡ bytesOf (settle g (runOf (set bs k c))) → Out g bs l k (record { taken = true; standing = m }) after
-      unfolding stoodBy
-      settled-out o after ea =
-          let e = by-request g (runOf bs) (k - 1) coded some (λ z. o (old-code ∙ z)) in
-          (rw (e, settle-standing g fresh, ← stands), rw e (ea ∙ ap (λ (r : Run). bytesOf (settle g r)) run-put))
-
-      -- something is requested still
-      pub waiting-out : getD bs k 0 ≢ returning → m .requested ≢ 0 → Out g bs l k (record { taken = true; standing = m }) (set bs k c)
-      waiting-out o w = settled-out o (set bs k c) (byte-put ∙ ap bytesOf (settle-wait g fresh m stands w) ∙ ap (λ (r : Run). bytesOf (settle g r)) (sym run-put))
+      -- a return was answered, or a request
+      pub taken-out : (after : List ℕ) → after ≡ bytesOf (followed g (getD bs k 0) (runOf (set bs k c))) → Out g bs l k (record { taken = true; standing = m }) after
+      unfolding stoodBy followed
+      taken-out after ea = elim (which (eqb (getD bs k 0) returning)) [
+        | inl z ↦ (let e = by-return g (runOf bs) (k - 1) coded some (sym old-code ∙ eqb-true (getD bs k 0) returning z) in
+            (rw (e, ← stands), rw e ((rw (z, run-put) at ea))))
+        | inr z ↦ (let e = by-request g (runOf bs) (k - 1) coded some (λ y. eqb-false (getD bs k 0) returning z (old-code ∙ y)) in
+            (rw (e, settle-standing g fresh, ← stands), rw e (rw (z, run-put) at ea)))
+      ]

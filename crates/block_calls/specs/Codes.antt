@@ -6,7 +6,8 @@ use lib.Dec.{eqb}
 use Rattle.network.specs.declared.Network.{Network}
 use Rattle.standing.specs.Standing.{free, requested, held, lost, returning}
 use Rattle.run.specs.State.{standing}
-use Rattle.run.specs.Replies.{Y, N, G, K}
+use Rattle.run.specs.Replies.{Y, N, G, K, settle}
+use Rattle.run.specs.declared.Run.{Run}
 use Rattle.run.specs.declared.Replied.{Replied}
 use Rattle.block_calls.specs.declared.Stood.{Stood}
 
@@ -21,6 +22,10 @@ codeAfter c l exposed =
     (cond (eqb c requested && eqb l N) (cond exposed lost free)
     (cond (eqb c returning && eqb l G) free
     (cond (eqb c returning && eqb l K) held none)))
+
+-- what follows a reply to a booking that had this code: the way may change after a Y or an N, not after a G or a K
+unfoldable pub followed : Network → ℕ → Run → Run
+followed g old r = cond (eqb old returning) r (settle g r)
 
 -- whether a reply was taken, and how the bookings stand after it
 unfoldable pub stoodBy : Network → Replied → Stood

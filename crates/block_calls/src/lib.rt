@@ -8,10 +8,9 @@ ghost use mathlib.Core.Path.{_≡_};
 ghost use Prim.Native.Nat.{_≤_};
 ghost use lib.ListN.{length};
 ghost use Rattle.run.specs.State.{standing};
-ghost use Rattle.run.specs.Replies.{settle};
 ghost use Rattle.run.specs.Bytes.{bytesOf, runOf};
 ghost use Rattle.guarantee.specs.Machine.{replyTo};
-ghost use Rattle.block_calls.specs.Codes.{codeAfter, stoodBy};
+ghost use Rattle.block_calls.specs.Codes.{codeAfter, followed, stoodBy};
 ghost use Rattle.block_calls.specs.Block.{linesOf, blockOf, bitsOf, blockCall, blockLeaves};
 
 // Lines taken: how many replies are kept, and what is wrong with the next line.
@@ -56,11 +55,17 @@ fn code_after(code: u8, letter: u8, exposed: bool) -> u8
     NONE
 }
 
-// What follows a Y or an N, in the state's bytes.
-fn settle(g: Network, s: Standing, state: &mut [u8])
+// What follows a reply to a booking that had this code, in the state's bytes. Only where nothing is requested any more is there anything to do.
+fn follow(g: Network, s: Standing, old: u8, state: &mut [u8])
     requires { ⌜ (g .a ≤ 16) × (length (now state) ≡ 65) × (runOf (now state) .way ≤ 16) × (s ≡ standing g (runOf (now state))) ⌝ }
-    ensures { λ _. ⌜ now (state .exit) ≡ bytesOf (settle g (runOf (now (state .entry)))) ⌝ }
+    ensures { λ _. ⌜ now (state .exit) ≡ bytesOf (followed g old (runOf (now (state .entry)))) ⌝ }
 {
+    if old == standing::RETURNING {
+        return;
+    }
+    if s.requested != 0 {
+        return;
+    }
     let run = run::load(state);
     run::store(run.settle(g, s), state);
 }
@@ -94,19 +99,7 @@ fn take_reply(g: Network, s: Standing, letter: u8, booking: u32, state: &mut [u8
     }
     state[place] = code;
     let moved = s.moved(sets::bit(place - 1), code);
-    if old == standing::RETURNING {
-        return Stood {
-            taken: true,
-            standing: moved,
-        };
-    }
-    if moved.requested != 0 {
-        return Stood {
-            taken: true,
-            standing: moved,
-        };
-    }
-    settle(g, moved, state);
+    follow(g, moved, old, state);
     Stood {
         taken: true,
         standing: moved,

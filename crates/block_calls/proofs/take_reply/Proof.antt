@@ -10,7 +10,7 @@ use borrow.Author.Needs.{needs}
 use Rattle.network.specs.Network.{exposed}
 use Rattle.standing.specs.Standing.{moved}
 use Rattle.block_calls.specs.Codes.{codeAfter}
-use Rattle.block_calls.proofs.Codes.{settle-size, no-booking, past-booking, no-code, put-size, put-way, put-standing, returned-out, waiting-out, settled-out}
+use Rattle.block_calls.proofs.Codes.{follow-size, no-booking, past-booking, no-code, put-size, put-way, put-standing, taken-out}
 use Rattle.block_calls.proofs.take_reply.Statement.{statement}
 use Rattle.block_calls.proofs.take_reply.Tie as tie
 
@@ -43,23 +43,9 @@ returns-2 c = let a = c .before .before .before .before in past-booking (a .args
 returns-3 : tie.Need-returns-3
 returns-3 c = let a = at (c .before) in no-code (a .args .g) (a .pre .0) (a .args .state .now) (a .pre .2) (a .args .s) (a .pre .4) (a .args .letter) (a .args .booking) (low (c .before)) (high (c .before)) _ (code-is (c .before)) (c .if3 .taken)
 
-returns-4 : tie.Need-returns-4
-returns-4 c =
+follow-requires : tie.Need-follow-requires
+follow-requires c κs =
     let m = c .before in
-    let k = m .before .before .before in
-    let a = at k in
-    returned-out (a .args .g) (a .pre .0) (a .args .state .now) (a .pre .2) (a .args .s) (a .pre .4) (a .args .letter) (a .args .booking) (low k) (high k) _ (code-is k) (m .before .before .if3 .left) _ (moves m) (c .if4 .taken)
-
-returns-5 : tie.Need-returns-5
-returns-5 c =
-    let m = c .before .before .before in
-    let k = m .before .before .before in
-    let a = at k in
-    waiting-out (a .args .g) (a .pre .0) (a .args .state .now) (a .pre .2) (a .args .s) (a .pre .4) (a .args .letter) (a .args .booking) (low k) (high k) _ (code-is k) (m .before .before .if3 .left) _ (moves m) (c .before .before .if4 .left) (c .if5 .taken)
-
-settle-requires : tie.Need-settle-requires
-settle-requires c κs =
-    let m = c .before .before .before .before in
     let k = m .before .before .before in
     let a = at k in
     let o = m .before .before .if3 .left in (
@@ -69,19 +55,21 @@ settle-requires c κs =
       put-standing (a .args .g) (a .pre .0) (a .args .state .now) (a .pre .2) (a .args .s) (a .pre .4) (a .args .letter) (a .args .booking) (low k) (high k) _ (code-is k) o _ (moves m),
     )
 
-same-length-3 : tie.Need-same-length-3
-same-length-3 c =
-    let m = c .before .before .before .before .before .before .before in
+same-length : tie.Need-same-length
+same-length c =
+    let m = c .before .before .before .before in
     let k = m .before .before .before in
     let a = at k in
-    ap length (c .before .before .settle .ensures) ∙ settle-size (a .args .g) _ (put-size (a .args .g) (a .pre .0) (a .args .state .now) (a .pre .2) (a .args .s) (a .pre .4) (a .args .letter) (a .args .booking) (low k) (high k) _ (code-is k) (m .before .before .if3 .left) _ (moves m)) ∙ sym (a .pre .2)
+    let o = m .before .before .if3 .left in
+    ap length (c .before .before .follow .ensures)
+    ∙ follow-size (a .args .g) _ (put-size (a .args .g) (a .pre .0) (a .args .state .now) (a .pre .2) (a .args .s) (a .pre .4) (a .args .letter) (a .args .booking) (low k) (high k) _ (code-is k) o _ (moves m)) _ (put-standing (a .args .g) (a .pre .0) (a .args .state .now) (a .pre .2) (a .args .s) (a .pre .4) (a .args .letter) (a .args .booking) (low k) (high k) _ (code-is k) o _ (moves m)) _ ∙ sym (a .pre .2)
 
-returns-6 : tie.Need-returns-6
-returns-6 c =
-    let m = c .before .before .before .before .before .before .before in
+returns-4 : tie.Need-returns-4
+returns-4 c =
+    let m = c .before .before .before .before in
     let k = m .before .before .before in
     let a = at k in
-    settled-out (a .args .g) (a .pre .0) (a .args .state .now) (a .pre .2) (a .args .s) (a .pre .4) (a .args .letter) (a .args .booking) (low k) (high k) _ (code-is k) (m .before .before .if3 .left) _ (moves m) (c .before .before .before .before .before .before .if4 .left) _ (c .before .before .settle .ensures)
+    taken-out (a .args .g) (a .pre .0) (a .args .state .now) (a .pre .2) (a .args .s) (a .pre .4) (a .args .letter) (a .args .booking) (low k) (high k) _ (code-is k) (m .before .before .if3 .left) _ (moves m) _ (c .before .before .follow .ensures)
 
 pub take-reply-spec : {M : Type 1} → statement M
 take-reply-spec =
@@ -98,10 +86,6 @@ take-reply-spec =
     (search needs)
     (search needs)
     (search needs)
-    (search needs)
-    returns-4
-    (search needs)
-    returns-5
-    settle-requires
-    same-length-3
-    returns-6)
+    follow-requires
+    same-length
+    returns-4)
