@@ -284,8 +284,8 @@ uint32_t campaign_reply(const uint8_t *sheet, size_t sheet_len,
  * does not fit or there is no such letter or booking. The replies before the
  * bad line stay taken; it and all after it count as not given.
  *
- * The sheet is read and checked once, so a block costs about as much as one
- * reply. Between two orders a booking has at most one reply that fits: a block
+ * The sheet is read and checked once, so a block costs as much as one reply or
+ * two. Between two orders a booking has at most one reply that fits: a block
  * never takes more than 64, and no bad line has a number above 65.
  */
 uint32_t campaign_reply_block(const uint8_t *sheet, size_t sheet_len,
