@@ -12,17 +12,18 @@ use borrow.Author.Tests.{eqb-true, eqb-false, eq-eqb, ne-eqb, lt-ltb, le-ltb}
 use Rattle.bounded.proofs.Bools.{which, and-l, by-cond}
 use Rattle.network.specs.Network.{exposed}
 use Rattle.network.specs.declared.Network.{Network}
-use Rattle.standing.specs.Standing.{free, requested, held, lost, returning, codeIs, moved}
-use Rattle.standing.specs.Ways.{firstLive}
+use Rattle.standing.specs.Standing.{free, requested, held, lost, returning, codeIs, standingOf, moved}
 use Rattle.standing.specs.declared.Standing.{Standing}
-use Rattle.run.specs.State.{code, standing, here, put, turn}
+use Rattle.run.specs.State.{code, standing, put}
 use Rattle.run.specs.Bytes.{bytesOf, runOf}
-use Rattle.run.specs.Replies.{Y, N, G, K, toSwitch, settle, afterNo, fits, misfits, reply}
+use Rattle.run.specs.Replies.{Y, N, G, K, settle, afterNo, fits, misfits, reply}
 use Rattle.run.specs.declared.Run.{Run}
 use Rattle.run.specs.declared.Replied.{Replied}
 use Rattle.run.proofs.Exits.{settle-wait}
 use Rattle.run.proofs.Steps.{moved-stands}
 use Rattle.guarantee.specs.Machine.{replyTo}
+use Rattle.guarantee.proofs.Bytes.{same-run}
+use Rattle.journal_calls.proofs.Lines.{settle-codes}
 use Rattle.block_calls.specs.Codes.{none, codeAfter, followed, stoodBy}
 use Rattle.block_calls.specs.declared.Stood.{Stood}
 
@@ -90,15 +91,10 @@ pub bytes-size : (r : Run) → length (r .code) ≡ 64 → length (bytesOf r) �
 unfolding bytesOf
 bytes-size r h = omega arith
 
-pub same-run : (r : Run) → runOf (bytesOf r) ≡ r
-unfolding bytesOf runOf
-same-run r = refl
-
 -- ---- the exits
 
 settle-standing : (g : Network) (r : Run) → standing g (settle g r) ≡ standing g r
-unfolding settle
-settle-standing g r = by-cond (λ (s : Run). standing g s ≡ standing g r) {t = toSwitch (standing g r) (here g r)} {a = turn r (firstLive g (standing g r))} {b = r} (λ e. refl) (λ e. refl)
+settle-standing g r = ap (λ (codes : List ℕ). standingOf codes (g .n)) (settle-codes g r)
 
 -- what follows a reply, at each exit
 module _ (g : Network) (bs : List ℕ) (size : length bs ≡ 65) (s : Standing) (es : s ≡ standing g (runOf bs)) (old : ℕ) where
@@ -114,12 +110,11 @@ module _ (g : Network) (bs : List ℕ) (size : length bs ≡ 65) (s : Standing) 
   still-waits o w = after-request o bs (sym (bytes-run bs size) ∙ ap bytesOf (settle-wait g (runOf bs) s es w))
 
   pub follow-size : length (bytesOf (followed g old (runOf bs))) ≡ 65
-  unfolding followed settle
+  unfolding followed
   follow-size =
       let r : Run = runOf bs in
-      let n = bytes-size r (codes-size bs size) in
-      by-cond (λ (x : Run). length (bytesOf x) ≡ 65) {t = eqb old returning} {a = r} {b = settle g r} (λ e. n)
-      (λ e. by-cond (λ (x : Run). length (bytesOf x) ≡ 65) {t = toSwitch (standing g r) (here g r)} {a = turn r (firstLive g (standing g r))} {b = r} (λ z. bytes-size (turn r (firstLive g (standing g r))) (codes-size bs size)) (λ z. n))
+      let n = codes-size bs size in
+      by-cond (λ (x : Run). length (bytesOf x) ≡ 65) {t = eqb old returning} {a = r} {b = settle g r} (λ e. bytes-size r n) (λ e. bytes-size (settle g r) (ap length (settle-codes g r) ∙ n))
 
 -- whether the reply to booking number k was taken, how the bookings stand, and the state's bytes
 abbrev pub Out : Network → List ℕ → ℕ → ℕ → Stood → List ℕ → Type 0

@@ -9,7 +9,8 @@ use Rattle.run.specs.State.{standing}
 use Rattle.run.specs.Bytes.{bytesOf, runOf}
 use Rattle.calls.specs.Calls.{networkIn, takenUp}
 use Rattle.calls.specs.declared.Campaign.{Campaign}
-use Rattle.calls.proofs.Exits.{not-taken, in-order, size, taken-is, run-is, codes, ready}
+use Rattle.calls.proofs.Exits.{not-taken, in-order, size, taken-is, run-is, ready}
+use Rattle.block_calls.proofs.Codes.{codes-size}
 use Rattle.block_calls.proofs.Few.{kept-few, fault-few}
 use Rattle.block_calls.specs.Block.{linesOf, Block, blockOf, bitsOf, blockBits, blockIn, blockCall, blockLeaves}
 
@@ -33,8 +34,8 @@ module _ (s block bs : List ℕ) (c : Campaign) (e : c ≡ takenUp s bs) where
     module _ (kept fault : ℕ) (told : (kept ≡ taken .kept) × (fault ≡ taken .fault)) where
       pub told-few : (kept ≤ 64) × (fault ≤ 9)
       told-few =
-          let m : length (runOf bs .code) ≡ 64 = rw (← run-is s bs c e n) (codes s bs c e n) in
-          rw (told .0, told .1) (kept-few (c .network) (lines-ready .0) (runOf bs) m (linesOf block), fault-few (c .network) (runOf bs) (linesOf block))
+          rw (told .0, told .1)
+          (kept-few (c .network) (lines-ready .0) (runOf bs) (codes-size bs (size s bs c e n)) (linesOf block), fault-few (c .network) (runOf bs) (linesOf block))
 
       pub block-done : (x : ℕ) → x ≡ bitsOf kept fault → (after : List ℕ) → after ≡ bytesOf (taken .run) → (x ≡ blockCall s block bs) × (after ≡ blockLeaves s block bs)
       unfolding blockCall blockLeaves blockIn blockBits

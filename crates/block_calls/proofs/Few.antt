@@ -9,18 +9,18 @@ use native.Mathlib.Omega.{arith}
 use lib.ListN.{length, drop, length-set}
 use lib.Seq.{getD-set-same, getD-set-other}
 use Rattle.bounded.specs.Bounded.{sum}
-use Rattle.bounded.proofs.Bools.{which, clash, by-cond}
+use Rattle.bounded.proofs.Bools.{which, clash}
 use Rattle.bounded.proofs.Sums.{sum-one, sum-most}
 use Rattle.network.specs.declared.Network.{Network}
 use Rattle.standing.specs.Standing.{free, held, lost}
-use Rattle.standing.specs.Ways.{firstLive}
-use Rattle.run.specs.State.{code, standing, here, put, turn}
-use Rattle.run.specs.Replies.{toSwitch, settle}
+use Rattle.run.specs.State.{code, put}
+use Rattle.run.specs.Replies.{settle}
 use Rattle.run.specs.declared.Run.{Run}
 use Rattle.run.specs.declared.Replied.{Replied}
 use Rattle.run.proofs.Cases.{ReplyCase, misfit, confirmed, refused, again, returned, kept, reply-case}
 use Rattle.guarantee.specs.Machine.{replyTo}
 use Rattle.guarantee.proofs.Moved.{awaits}
+use Rattle.journal_calls.proofs.Lines.{settle-codes}
 use Rattle.event_lines.specs.declared.Line.{Line}
 use Rattle.event_lines.specs.declared.Line.the-variants.{Given, Misformed}
 use Rattle.block_calls.specs.Block.{keptOf, faultOf, blockOf}
@@ -53,8 +53,8 @@ module _ (g : Network) (few : g .n ≤ 64) (r : Run) (size : length (r .code) �
 
   -- the switch changes no code
   settle-fewer : (s : Run) → Fewer r s → Fewer r (settle g s)
-  unfolding settle opens code
-  settle-fewer s f = by-cond (Fewer r) {t = toSwitch (standing g s) (here g s)} {a = turn s (firstLive g (standing g s))} {b = s} (λ e. f) (λ e. f)
+  unfolding opens code
+  settle-fewer s f = rw (settle-codes g s) f
 
   reply-fewer : (l x : ℕ) {t : Replied} → ReplyCase g r l x t → t .taken ≡ true → Fewer r (t .run)
   reply-fewer l x misfit d = clash true refl (sym d)

@@ -14,15 +14,15 @@ ghost use Rattle.block_calls.specs.Codes.{codeAfter, followed, stoodBy};
 ghost use Rattle.block_calls.specs.Block.{linesOf, blockOf, bitsOf, blockCall, blockLeaves};
 
 // Lines taken: how many replies are kept, and what is wrong with the next line.
-pub struct Taken {
-    pub kept: usize,
-    pub fault: u32,
+struct Taken {
+    kept: usize,
+    fault: u32,
 }
 
 // Whether a reply was taken, and how the bookings stand after it.
-pub struct Stood {
-    pub taken: bool,
-    pub standing: Standing,
+struct Stood {
+    taken: bool,
+    standing: Standing,
 }
 
 // No code of a booking.

@@ -5,8 +5,7 @@ use mathlib.Core.Bool.{Bool, true, false, not, _&&_, cond}
 use mathlib.Core.Logic.{inl, inr}
 use mathlib.Core.List.{List}
 use Prim.Native.Nat.{ℕ, _≤_}
-use native.Mathlib.Omega.{arith}
-use lib.ListN.{length, length-drop}
+use lib.ListN.{length}
 use lib.Dec.{eqb}
 use borrow.Author.Tests.{eq-eqb, ne-eqb, eqb-true, not-true, not-false}
 use Rattle.bounded.proofs.Bools.{which, and-l, and-r}
@@ -172,10 +171,6 @@ module _ (s bs : List ℕ) (c : Campaign) (e : c ≡ takenUp s bs) where
 
     pub run-is : c .run ≡ runOf bs
     run-is = rw taken-is
-
-    pub codes : length (c .run .code) ≡ 64
-    unfolding runOf
-    codes = rw taken-is (let n = size in omega (arith, length-drop 1 bs))
 
     -- what next order and reply rely on
     pub ready : (c .network .n ≤ 64) × (c .network .a ≤ 16) × (c .run .way ≤ 16) × (c .standing ≡ standing (c .network) (c .run))

@@ -122,7 +122,7 @@ record Moves (g : Network) (r t : Run) (b : ℕ) : Type 0 where
   pub booking : b < g .n
   pub codes : t .code ≡ set (r .code) b (getD (t .code) b 0)
 
-settle-codes : (g : Network) (r : Run) → settle g r .code ≡ r .code
+pub settle-codes : (g : Network) (r : Run) → settle g r .code ≡ r .code
 unfolding settle
 settle-codes g r = by-cond (λ (s : Run). s .code ≡ r .code) {t = toSwitch (standing g r) (here g r)} {a = turn r (firstLive g (standing g r))} {b = r} (λ e. refl) (λ e. refl)
 

@@ -1,6 +1,6 @@
 -- A list of calls and their answers as bytes, and what playing the list gives and leaves.
 -- A call has ten bytes: 0 for next order, 1 for a block, any other byte for a reply; the reply's letter; two numbers of 32 bits, high byte
--- first: the reply's booking, or where the block begins among the blocks' bytes; and how many bytes it has, or what is left of them there.
+-- first: the reply's booking, or where the block begins among the blocks' bytes; and the block's length, less where these bytes end before.
 -- An answer has 69: its 32 bits, high byte first, and the state's 65 bytes after the call.
 -- Assumes nothing.
 use mathlib.Core.Bool.{Bool, _&&_, cond}

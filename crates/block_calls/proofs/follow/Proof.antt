@@ -1,6 +1,6 @@
 -- `block_calls::follow` meets its contract.
 -- Assumes nothing.
-use mathlib.Core.Path.{_≡_, ap, _∙_}
+use mathlib.Core.Path.{ap, _∙_}
 use borrow.Author.Needs.{needs}
 use Rattle.run.specs.Bytes.{bytesOf}
 use Rattle.run.specs.Replies.{settle}

@@ -16,11 +16,12 @@ use Rattle.network.specs.declared.Network.{Network}
 use Rattle.event_lines.specs.Line.{lineOf}
 use Rattle.event_lines.specs.declared.Line.the-variants.{Given, Misformed}
 use Rattle.guarantee.specs.Machine.{replyTo}
+use Rattle.guarantee.proofs.Bytes.{same-run}
 use Rattle.journal_calls.proofs.Replaying.{none-left, one-read}
 use Rattle.block_calls.specs.Block.{linesOf, faultOf, blockOf}
 use Rattle.block_calls.specs.Codes.{stoodBy}
 use Rattle.block_calls.specs.declared.Stood.{Stood}
-use Rattle.block_calls.proofs.Codes.{bytes-run, bytes-size, same-run, codes-size}
+use Rattle.block_calls.proofs.Codes.{bytes-run, bytes-size, codes-size}
 use Rattle.block_calls.proofs.Few.{numbered-fewer}
 use Rattle.block_calls.proofs.Taking.{replyOn, misformed-misfits, misfit-stays, reply-few, rest, all-left, none-after, tail-after, bad-line, one-kept, told}
 use Rattle.block_calls.proofs.take_lines.Statement.{statement}
