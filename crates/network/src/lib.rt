@@ -2,8 +2,7 @@
 use plan::Plan;
 ghost use mathlib.Core.Path.{_≡_};
 ghost use Prim.Native.Nat.{_≤_};
-ghost use Rattle.bounded.specs.Bounded.{table};
-ghost use Rattle.sets.specs.Sets.{alone, gather};
+ghost use Rattle.sets.specs.Sets.{gather};
 ghost use Rattle.network.specs.FromPlan.{oneOf, isFirm, isExposed, ofKind, directOf, networkOf, Ends};
 
 // A plan as the rules see it. Booking number b is index b - 1 and bit b - 1 of every set; way[k] is way number k + 1.
@@ -34,33 +33,34 @@ fn is_either(k: u8, x: u8, y: u8) -> bool
 }
 
 // The bookings below n by their kinds: firm are P and R, exposed C and P, and D is neither.
-fn kinds_of(bits: &[u64; 64], kind: &[u8; 64], n: usize) -> Kinds
-    requires { ⌜ (now bits ≡ table alone 64) × (n ≤ 64) ⌝ }
+fn kinds_of(kind: &[u8; 64], n: usize) -> Kinds
+    requires { ⌜ n ≤ 64 ⌝ }
     ensures { λ r. ⌜ (r .firm ≡ gather (ofKind isFirm (now (kind .entry))) n) × (r .exposed ≡ gather (ofKind isExposed (now (kind .entry))) n) ⌝ }
 {
     let mut firm: u64 = 0;
     let mut exposed: u64 = 0;
     for b in 0..n {
+        let this = sets::bit(b);
         if is_either(kind[b], b'P', b'R') {
-            firm = firm | bits[b];
+            firm = firm | this;
         }
         if is_either(kind[b], b'C', b'P') {
-            exposed = exposed | bits[b];
+            exposed = exposed | this;
         }
     }
     Kinds { firm, exposed }
 }
 
 // The direct predecessors of each booking, by the first m links.
-fn direct(bits: &[u64; 64], from: [u8; 512], to: [u8; 512], m: usize) -> [u64; 64]
-    requires { ⌜ (now bits ≡ table alone 64) × Ends from to m ⌝ }
-    ensures { λ r. ⌜ r ≡ directOf from to m ⌝ }
+fn direct(from: &[u8; 512], to: &[u8; 512], m: usize) -> [u64; 64]
+    requires { ⌜ Ends (now from) (now to) m ⌝ }
+    ensures { λ r. ⌜ r ≡ directOf (now (from .entry)) (now (to .entry)) m ⌝ }
 {
     let mut d = [0u64; 64];
     for i in 0..m {
         let u = from[i] as usize - 1;
         let v = to[i] as usize - 1;
-        d[v] = d[v] | bits[u];
+        d[v] = d[v] | sets::bit(u);
     }
     d
 }
@@ -74,10 +74,9 @@ pub fn network_of(p: Plan) -> Network
     let from = p.from;
     let to = p.to;
     let way = p.way;
-    let bits = sets::bits();
-    let links = direct(&bits, from, to, p.m);
+    let links = direct(&from, &to, p.m);
     let before = precedence::closure(links);
-    let kinds = kinds_of(&bits, &kind, p.n);
+    let kinds = kinds_of(&kind, p.n);
     Network {
         n: p.n,
         a: p.a,

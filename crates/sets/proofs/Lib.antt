@@ -5,4 +5,3 @@ pub mod Facts
 pub mod Operations
 pub mod Whole
 pub mod Insert
-pub mod Table

@@ -3,24 +3,21 @@
 use mathlib.Core.Path.{_≡_, refl, sym, ap, _∙_}
 use mathlib.Core.Logic.{⊎-elim}
 use mathlib.Core.Bool.{Bool, true, false, not, _&&_, _||_}
-use mathlib.Core.List.{List}
 use Prim.Native.Nat.{ℕ, zero, suc, _+_, _/_, _%_, _^_, _<_, suc-le-suc}
 use native.Mathlib.Nat.{mod-lt, lt-of-le-of-lt, not-suc-le-zero, le-of-suc-le-suc}
 use native.Mathlib.Omega.{arith}
 use borrow.Author.Tests.{eqb-true, eq-eqb, ne-eqb, not-true}
 use lib.Dec.{eqb}
-use lib.ListN.{getD}
 use lib.Pow.{pow-lt}
 use lib.Bits.{bitAnd, bitOr, bitXor, and-le-l, or-lt, xor-lt}
 use lib.Count.{trailingZeros, under}
-use Rattle.bounded.specs.Bounded.{all, first, table}
+use Rattle.bounded.specs.Bounded.{all, first}
 use Rattle.bounded.proofs.Bools.{same-test, binary, imp-i, imp-e, and-l, and-r, _&_}
 use Rattle.bounded.proofs.Tests.{all-i, all-e}
 use Rattle.bounded.proofs.First.{Least, first-is}
 use Rattle.sets.specs.Sets.{alone, member, gather, inserted, insert, only, without, kept, subsetOf, apart, disjointFrom}
 use Rattle.sets.proofs.Members.{two-pos, unlike, member-and, member-or, member-xor, member-zero, member-power, member-suc, low-digit, same-set}
 use Rattle.sets.proofs.Gather.{gather-is, gather-lt, gather-put, member-gather}
-use Rattle.sets.proofs.Table.{alone-in}
 
 -- `s | 2 ^ i` puts i in
 pub put-bit : (s i : ℕ) → i < 64 → s < 2 ^ 64 → bitOr s (2 ^ i) ≡ insert s i
@@ -29,12 +26,12 @@ put-bit s i h hs =
     gather-is (inserted s i) 64 (bitOr s (2 ^ i)) (or-lt 64 s (2 ^ i) hs (pow-lt h))
     (λ j l. member-or s (2 ^ i) j ∙ ap (λ (b : Bool). member s j || b) (member-power i j))
 
--- the same with the bit from a loop's own copy of the table, and one more turn of a loop that gathers so
-pub put-alone : (t : List ℕ) → t ≡ table alone 64 → (s i : ℕ) → i < 64 → s < 2 ^ 64 → bitOr s (getD t i 0) ≡ insert s i
-put-alone t e s i h hs = ap (λ (x : ℕ). bitOr s x) (alone-in t e i h) ∙ put-bit s i h hs
+-- the same with the bit that `bit` gave, and one more turn of a loop that gathers so
+pub put-alone : (s i t : ℕ) → t ≡ alone i → i < 64 → s < 2 ^ 64 → bitOr s t ≡ insert s i
+put-alone s i t e h hs = ap (bitOr s) e ∙ put-bit s i h hs
 
-pub gather-alone : (t : List ℕ) → t ≡ table alone 64 → (f : ℕ → Bool) (n : ℕ) → n < 64 → f n ≡ true → bitOr (gather f n) (getD t n 0) ≡ gather f (n + 1)
-gather-alone t e f n h p = ap (λ (x : ℕ). bitOr (gather f n) x) (alone-in t e n h) ∙ gather-put f n p
+pub gather-alone : (f : ℕ → Bool) (n t : ℕ) → t ≡ alone n → f n ≡ true → bitOr (gather f n) t ≡ gather f (n + 1)
+gather-alone f n t e p = ap (bitOr (gather f n)) e ∙ gather-put f n p
 
 pub insert-fits : (s i : ℕ) → insert s i < 2 ^ 64
 unfolding insert

@@ -92,7 +92,6 @@ pub fn look(code: [u8; 64], n: usize) -> Standing
     requires { ⌜ n ≤ 64 ⌝ }
     ensures { λ s. ⌜ s ≡ standingOf code n ⌝ }
 {
-    let bits = sets::bits();
     let mut s = Standing {
         free: 0,
         requested: 0,
@@ -101,7 +100,7 @@ pub fn look(code: [u8; 64], n: usize) -> Standing
         returning: 0,
     };
     for i in 0..n {
-        s = s.moved(bits[i], code[i]);
+        s = s.moved(sets::bit(i), code[i]);
     }
     s
 }

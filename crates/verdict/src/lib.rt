@@ -128,9 +128,8 @@ fn find_spans(g: Network, before: &[u64; 64], upto: &mut [u64; 64], stay: &mut [
     requires { ⌜ (now before ≡ g .before) × (length (now upto) ≡ 64) × (now stay ≡ replicate 64 0) × (g .n ≤ 64) ⌝ }
     ensures { λ _. ⌜ Upto g (now (upto .exit)) × Stay g (now (stay .exit)) ⌝ }
 {
-    let bits = sets::bits();
     for s in 0..g.n {
-        let b = bits[s];
+        let b = sets::bit(s);
         let up = before[s] | b;
         upto[s] = up;
         if sets::has(g.firm, s) {

@@ -100,7 +100,6 @@ fn gather(s: &[u8], at: usize, k: usize, n: usize) -> Gathered
     requires { ⌜ (k ≤ mostBookings) × (n ≤ mostBookings) × (at < 32768) ⌝ }
     ensures { λ r. ⌜ r ≡ gatherOf n 0 0 k (drop at (now (s .entry))) ⌝ }
 {
-    let bits = sets::bits();
     let mut set = 0u64;
     let mut last = 0;
     let mut j = 0;
@@ -111,7 +110,7 @@ fn gather(s: &[u8], at: usize, k: usize, n: usize) -> Gathered
         if !plan::is_within(last + 1, x, n) {
             return sequence_or_form(s, at + 4 * (j + 1), k - (j + 1));
         }
-        set = set | bits[x - 1];
+        set = set | sets::bit(x - 1);
         last = x;
         j += 1;
     }

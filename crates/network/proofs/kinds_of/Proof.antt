@@ -4,6 +4,7 @@ use mathlib.Core.Path.{_≡_, refl, sym, ap₂, _∙_}
 use mathlib.Core.Logic.{⊎-elim}
 use Prim.Native.Nat.{_≤_, _-_}
 use native.Mathlib.Omega.{arith}
+use borrow.Author.Needs.{needs}
 use lib.Bits.{bitOr}
 use Rattle.sets.specs.Sets.{gather}
 use Rattle.sets.proofs.Gather.{gather-zero, gather-skip}
@@ -13,10 +14,10 @@ use Rattle.network.proofs.kinds_of.Statement.{statement}
 use Rattle.network.proofs.kinds_of.Tie as tie
 
 abbrev Inv-loop : tie.InvT-loop
-Inv-loop bits kind n firm₀ exposed₀ b₀ firm exposed b = (b ≤ n) × (firm ≡ gather (ofKind isFirm kind) b) × (exposed ≡ gather (ofKind isExposed kind) b)
+Inv-loop kind n firm₀ exposed₀ b₀ firm exposed b = (b ≤ n) × (firm ≡ gather (ofKind isFirm kind) b) × (exposed ≡ gather (ofKind isExposed kind) b)
 
 abbrev μ-loop : tie.MeasureT-loop
-μ-loop bits kind n firm₀ exposed₀ b₀ firm exposed b = n - b
+μ-loop kind n firm₀ exposed₀ b₀ firm exposed b = n - b
 
 loop-holds : tie.Need-loop-holds Inv-loop μ-loop
 loop-holds c = (omega arith, sym (gather-zero _), sym (gather-zero _))
@@ -25,12 +26,12 @@ loop-again : tie.Need-loop-again Inv-loop μ-loop
 unfolding ofKind
 loop-again c =
     let j = c .before .before .before in
-    let l = j .before .before .before .before in
-    let t = l .before .pre .0 in (
+    let t = j .before .before .before in
+    let l = t .before .before in (
       omega arith,
-      ⊎-elim (λ w. w .2 ∙ ap₂ bitOr (l .loop .inv .1) refl ∙ gather-alone _ t _ _ (omega arith) (sym (j .before .is-either .ensures) ∙ w .0 .taken))
+      ⊎-elim (λ w. w .1 ∙ ap₂ bitOr (l .loop .inv .1) refl ∙ gather-alone _ _ _ (t .bit .ensures) (sym (j .before .is-either .ensures) ∙ w .0 .taken))
           (λ w. w .1 ∙ l .loop .inv .1 ∙ gather-skip _ _ (sym (j .before .is-either .ensures) ∙ w .0 .left)) (j .if1 .came),
-      ⊎-elim (λ w. w .2 ∙ ap₂ bitOr (l .loop .inv .2) refl ∙ gather-alone _ t _ _ (omega arith) (sym (c .before .is-either2 .ensures) ∙ w .0 .taken))
+      ⊎-elim (λ w. w .1 ∙ ap₂ bitOr (l .loop .inv .2) refl ∙ gather-alone _ _ _ (t .bit .ensures) (sym (c .before .is-either2 .ensures) ∙ w .0 .taken))
           (λ w. w .1 ∙ l .loop .inv .2 ∙ gather-skip _ _ (sym (c .before .is-either2 .ensures) ∙ w .0 .left)) (c .if2 .came),
     )
 
@@ -44,15 +45,12 @@ kinds-of-spec =
     Inv-loop
     μ-loop
     loop-holds
-    (omega arith)
-    (omega arith)
-    (omega arith)
-    (omega arith)
-    (omega arith)
-    (omega arith)
-    (omega arith)
-    (omega arith)
-    (omega arith)
-    (omega arith)
+    (search needs)
+    (search needs)
+    (search needs)
+    (search needs)
+    (search needs)
+    (search needs)
+    (search needs)
     loop-again
     returns)

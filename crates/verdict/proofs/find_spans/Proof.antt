@@ -12,7 +12,6 @@ use lib.ListN.{length, getD, length-set, getD-replicate}
 use Rattle.bounded.proofs.Lists.{table-put}
 use Rattle.sets.specs.Sets.{gather}
 use Rattle.sets.proofs.Gather.{gather-zero}
-use Rattle.sets.proofs.Table.{alone-in}
 use Rattle.network.specs.Network as Net
 use Rattle.verdict.specs.Parts.{mayStay, stayAt}
 use Rattle.verdict.proofs.Parts.{stay-turn, stay-same}
@@ -20,26 +19,26 @@ use Rattle.verdict.proofs.find_spans.Statement.{statement}
 use Rattle.verdict.proofs.find_spans.Tie as tie
 
 abbrev Inv-loop : tie.InvT-loop
-Inv-loop g before upto₀ stay₀ bits s₀ s-end upto stay s = (s ≤ s-end) × (length upto ≡ 64) × (length stay ≡ 64)
+Inv-loop g before upto₀ stay₀ s₀ s-end upto stay s = (s ≤ s-end) × (length upto ≡ 64) × (length stay ≡ 64)
     × ((i : ℕ) → i < s → getD upto i 0 ≡ bitOr (Net.before g i) (2 ^ i)) × ((x : ℕ) → x < g .n → getD stay x 0 ≡ gather (mayStay g x) s)
 
 abbrev μ-loop : tie.MeasureT-loop
-μ-loop g before upto₀ stay₀ bits s₀ s-end upto stay s = s-end - s
+μ-loop g before upto₀ stay₀ s₀ s-end upto stay s = s-end - s
 
 loop-holds : tie.Need-loop-holds Inv-loop μ-loop
 loop-holds c =
-    let p = c .before .pre in
+    let p = c .pre in
     (omega arith, p .1, ap length (p .2), below-none _, λ x h. rw (p .2) (getD-replicate 64 x 0 0 (omega arith)) ∙ sym (gather-zero _))
 
 loop-again : tie.Need-loop-again Inv-loop μ-loop
 unfolding Net.before
 loop-again c =
-    let l = c .before .before .before .before in
-    let f = l .before in
-    let a = f .before .args in
+    let q = c .before .before .before in
+    let l = q .before .before in
+    let a = l .before .args in
     let s = l .loop .s in
-    let bit : getD (f .bits .result) s 0 ≡ 2 ^ s = alone-in _ (f .bits .ensures) s (omega arith) in
-    let up : bitOr (getD (a .before .now) s 0) (getD (f .bits .result) s 0) ≡ bitOr (Net.before (a .g) s) (2 ^ s) = ap₂ bitOr (ap (λ (t : List ℕ). getD t s 0) (f .before .pre .0)) bit in (
+    let bit = q .bit .ensures in
+    let up : bitOr (getD (a .before .now) s 0) (q .bit .result) ≡ bitOr (Net.before (a .g) s) (2 ^ s) = ap₂ bitOr (ap (λ (t : List ℕ). getD t s 0) (l .before .pre .0)) bit in (
       omega arith,
       simp length-set (l .loop .inv .1),
       ⊎-elim (λ w. ap length (w .3) ∙ w .2 .ensures .whole) (λ w. ap length (w .1) ∙ l .loop .inv .2) (c .if1 .came),
@@ -53,7 +52,7 @@ returns : tie.Need-returns Inv-loop μ-loop
 unfolding stayAt
 returns c =
     let l = c .before in
-    let e : l .loop .s ≡ l .before .before .args .g .n = omega arith in
+    let e : l .loop .s ≡ l .before .args .g .n = omega arith in
     (λ s h. l .loop .inv .3 s (omega arith), rw e at (l .loop .inv .4))
 
 pub find-spans-spec : {M : Type 1} → statement M
@@ -62,17 +61,15 @@ find-spans-spec =
     (tie.spec
     Inv-loop
     μ-loop
-    (search needs)
     loop-holds
-    (omega arith)
-    (omega arith)
-    (omega arith)
-    (omega arith)
-    (omega arith)
-    (omega arith)
-    (omega arith)
-    (omega arith)
-    (omega arith)
-    (omega arith)
+    (search needs)
+    (search needs)
+    (search needs)
+    (search needs)
+    (search needs)
+    (search needs)
+    (search needs)
+    (search needs)
+    (search needs)
     loop-again
     returns)

@@ -4,7 +4,7 @@ use native.Mathlib.Omega.{arith}
 use Rattle.ways.proofs.ReadLaws.{gather-fault, gather-out, gather-on, gather-end}
 use borrow.Author.Needs.{needs}
 use native.Mathlib.Nat.{sub-zero, add-zero, mul-zero}
-use lib.ListN.{getD, drop}
+use lib.ListN.{drop}
 use Prim.Native.Nat.{_+_, _*_, _-_, _^_, _≤_, _<_}
 use lib.Bits.{bitOr}
 use Rattle.sets.specs.Sets.{insert}
@@ -16,10 +16,10 @@ use Rattle.ways.proofs.gather.Statement.{statement}
 use Rattle.ways.proofs.gather.Tie as tie
 
 abbrev Inv-loop : tie.InvT-loop
-Inv-loop s at k n bits set₀ last₀ j₀ set last j = (j ≤ k) × (last ≤ n) × (set < 2 ^ 64) × (gatherOf n last set (k - j) (drop (at + 4 * j) s) ≡ gatherOf n 0 0 k (drop at s))
+Inv-loop s at k n set₀ last₀ j₀ set last j = (j ≤ k) × (last ≤ n) × (set < 2 ^ 64) × (gatherOf n last set (k - j) (drop (at + 4 * j) s) ≡ gatherOf n 0 0 k (drop at s))
 
 abbrev μ-loop : tie.MeasureT-loop
-μ-loop s at k n bits set₀ last₀ j₀ set last j = k - j
+μ-loop s at k n set₀ last₀ j₀ set last j = k - j
 
 loop-holds : tie.Need-loop-holds Inv-loop μ-loop
 loop-holds c = (search needs, search needs, omega arith, simp (add-zero, sub-zero, mul-zero))
@@ -34,24 +34,20 @@ returns-2 c = search gather-out
 above : (c : tie.Else1 Inv-loop μ-loop) → c .before .before .before .before .before .before .before .loop .last + 1 ≤ c .before .before .before .x .given .0 .0
 above c = within-lo-by _ _ _ _ (c .before .is-within .ensures) (c .if1 .left)
 
-below : (c : tie.Else1 Inv-loop μ-loop) → c .before .before .before .x .given .0 .0 ≤ c .before .before .before .before .before .before .before .before .before .before .args .n
+below : (c : tie.Else1 Inv-loop μ-loop) → c .before .before .before .x .given .0 .0 ≤ c .before .before .before .before .before .before .before .before .before .args .n
 below c = within-hi-by _ _ _ _ (c .before .is-within .ensures) (c .if1 .left)
 
-sub-set : tie.Need-sub-set Inv-loop μ-loop
-sub-set c = omega (arith, above c)
+sub-bit : tie.Need-sub-bit Inv-loop μ-loop
+sub-bit c = omega (arith, above c)
 
-mul-set : tie.Need-mul-set Inv-loop μ-loop
-mul-set c = omega (arith, below c)
+bit-requires : tie.Need-bit-requires Inv-loop μ-loop
+bit-requires c κs = omega (arith, above c, below c)
 
-array-read-set : tie.Need-array-read-set Inv-loop μ-loop
-array-read-set c = omega (arith, below c)
-
--- the bit is the table's
-put : (c : tie.Else1 Inv-loop μ-loop) →
-    let l = c .before .before .before .before .before .before .before in
-    let i = c .before .before .before .x .given .0 .0 - 1 in
-    bitOr (l .loop .set) (getD (l .before .bits .result) i 0) ≡ insert (l .loop .set) i
-put c = let l = c .before .before .before .before .before .before .before in put-alone _ (l .before .bits .ensures) _ _ (omega (arith, above c, below c)) (l .loop .inv .2)
+-- the number put in
+put : (c : tie.After-bit Inv-loop μ-loop) →
+    let l = c .before .before .before .before .before .before .before .before in
+    bitOr (l .loop .set) (c .bit .result) ≡ insert (l .loop .set) (c .before .before .before .before .x .given .0 .0 - 1)
+put c = let l = c .before .before .before .before .before .before .before .before in put-alone _ _ _ (c .bit .ensures) (omega (arith, above (c .before), below (c .before))) (l .loop .inv .2)
 
 loop-again : tie.Need-loop-again Inv-loop μ-loop
 loop-again c = (search needs, search within-hi-by, rw (put c) (insert-fits _ _), search (gather-on, put c))
@@ -65,7 +61,6 @@ gather-spec =
     (tie.spec
     Inv-loop
     μ-loop
-    (search needs)
     loop-holds
     (search needs)
     (search needs)
@@ -82,9 +77,8 @@ gather-spec =
     (search needs)
     (search needs)
     returns-2
-    sub-set
-    mul-set
-    array-read-set
+    sub-bit
+    bit-requires
     (search needs)
     (search needs)
     loop-again
