@@ -126,7 +126,9 @@ fn no_network() -> Network
 pub fn judge_sheet(sheet: &[u8]) -> Checked
     ensures { λ r. ⌜ r ≡ checkedOf (now (sheet .entry)) ⌝ }
 {
-    let read = sheet::read_sheet(sheet);
+    let mut from = [0u8; 512];
+    let mut to = [0u8; 512];
+    let read = sheet::read_outline(sheet, &mut from, &mut to);
     let judged = read.judged;
     if !plan::is_fine(judged) {
         let bits = judged_bits(judged);
@@ -137,8 +139,8 @@ pub fn judge_sheet(sheet: &[u8]) -> Checked
             network,
         };
     }
-    let plan = read.plan;
-    let network = network::network_of(plan);
+    let outline = read.outline;
+    let network = network::network_of(outline, &from, &to);
     let v = verdict::check(network);
     let bits = check_bits(v);
     let passes = is_pass(v);

@@ -20,13 +20,12 @@ use Rattle.lines.specs.Form.{bookingBytes, linkBytes}
 use Rattle.lines.specs.Booking.{bookingText, kindIn, bookingOf}
 use Rattle.lines.specs.Link.{linkText, linkOf}
 use Rattle.lines.specs.Kinds.{kindsText, afterBooking, kindsOf}
-use Rattle.lines.specs.Links.{linksText, afterLink, linksOf}
+use Rattle.lines.specs.Links.{Links, linksText, afterLink, linksOf}
 use Rattle.lines.specs.declared.Booking.{Booking}
 use Rattle.lines.specs.declared.Booking.the-variants as B
 use Rattle.lines.specs.declared.Link.{Link}
 use Rattle.lines.specs.declared.Link.the-variants as L
 use Rattle.lines.specs.declared.Kinds.{Kinds}
-use Rattle.lines.specs.declared.Links.{Links}
 use Rattle.bounded.proofs.Filled.{filled}
 use Rattle.lines.proofs.Lengths.{booking-length, link-length}
 use Rattle.lines.proofs.RoundTrip.{its-kind, BookingIs, booking-read, booking-accepted, LinkIs, link-read, link-accepted}

@@ -2,18 +2,17 @@
 -- left gives it, and each turn keeps that.
 -- Assumes nothing.
 use Prim.Native.Nat.{ℕ, suc, _+_, _*_, _-_, _<_, _≤_}
-use mathlib.Core.Path.{_≡_}
+use mathlib.Core.Path.{_≡_, ap}
 use mathlib.Core.List.{List}
 use native.Mathlib.Omega.{arith}
 use lib.ListN.{take, drop, set}
 use lib.Seq.{drop-drop}
 use Rattle.lines.specs.Form.{linkBytes}
 use Rattle.lines.specs.Link.{linkOf}
-use Rattle.lines.specs.Links.{afterLink, linksOf}
+use Rattle.lines.specs.Links.{Links, afterLink, linksOf}
 use Rattle.lines.specs.declared.Link.{Link}
 use Rattle.lines.specs.declared.Link.the-variants.{Pair, Malformed, OutOfSequence}
 use Rattle.plan.specs.declared.Judged.the-variants.{Fine, Form, Sequence}
-use Rattle.lines.specs.declared.Links.{Links}
 
 step : (n m i : ℕ) (rest : List ℕ) (lastFrom lastTo : ℕ) (us vs : List ℕ) → i < m
     → linksOf n (m - i) i rest lastFrom lastTo us vs
@@ -45,3 +44,7 @@ unfolding linksOf
 ended n m i rest lastFrom lastTo us vs whole h w =
     let e : m - i ≡ 0 = omega arith in
     rw e at w
+
+-- what is told of the links, and what the two lent arrays hold
+pub told : (t whole : Links) → t ≡ whole → (t .judged ≡ whole .judged) × ((t .from ≡ whole .from) × (t .to ≡ whole .to))
+told t whole e = (ap (λ (x : Links). x .judged) e, (ap (λ (x : Links). x .from) e, ap (λ (x : Links). x .to) e))

@@ -8,14 +8,13 @@ use Rattle.plan.specs.Judging.{judgedPlace}
 use Rattle.lines.specs.Form.{bookingBytes, linkBytes}
 use Rattle.lines.specs.Kinds.{afterBooking, kindsOf}
 use Rattle.lines.specs.Booking.{bookingOf}
-use Rattle.lines.specs.Links.{afterLink, linksOf}
+use Rattle.lines.specs.Links.{Links, afterLink, linksOf}
 use Rattle.lines.specs.Link.{linkOf}
 use Rattle.lines.specs.declared.Booking.{Booking}
 use Rattle.lines.specs.declared.Booking.the-variants as B
 use Rattle.lines.specs.declared.Kinds.{Kinds}
 use Rattle.lines.specs.declared.Link.{Link}
 use Rattle.lines.specs.declared.Link.the-variants as L
-use Rattle.lines.specs.declared.Links.{Links}
 
 kinds-next : (b : Booking) (l m : ℕ) (ks : List ℕ) (f : ℕ → Kinds) → l ≤ m → ((k : ℕ) → judgedPlace (f k .judged) ≤ m) → judgedPlace (afterBooking b l ks f .judged) ≤ m
 kinds-next (B.Kind k) l m ks f h n = n k

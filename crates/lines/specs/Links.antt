@@ -8,13 +8,19 @@ use Rattle.lines.specs.Form.{linkBytes}
 use Rattle.lines.specs.Link.{linkText, linkOf}
 use Rattle.lines.specs.declared.Link.{Link}
 use Rattle.lines.specs.declared.Link.the-variants.{Pair, Malformed, OutOfSequence}
+use Rattle.plan.specs.declared.Judged.{Judged}
 use Rattle.plan.specs.declared.Judged.the-variants.{Fine, Form, Sequence}
-use Rattle.lines.specs.declared.Links.{Links}
 
 -- the lines of so many links, from the link at index i on
 unfoldable pub linksText : ℕ → ℕ → List ℕ → List ℕ → List ℕ
 linksText zero i us vs = []
 linksText (suc more) i us vs = linkText (getD us i 0) (getD vs i 0) ++ linksText more (i + 1) us vs
+
+-- the links that their lines give; up to the refused line, if one is
+pub record Links : Type 0 where
+  pub judged : Judged
+  pub from : List ℕ
+  pub to : List ℕ
 
 -- on with the pair that a line holds, or refused at line l with the links so far
 abbrev pub afterLink : Link → ℕ → List ℕ → List ℕ → (ℕ → ℕ → Links) → Links

@@ -48,13 +48,6 @@ pub struct Kinds {
     pub kind: [u8; 64],
 }
 
-// The links that their lines give; up to the refused line, if one is.
-pub struct Links {
-    pub judged: Judged,
-    pub from: [u8; 512],
-    pub to: [u8; 512],
-}
-
 // Where the links of a sheet begin, after n bookings.
 pub fn links_place(n: usize) -> usize
     requires { ⌜ n ≤ mostBookings ⌝ }
@@ -184,20 +177,21 @@ pub fn read_kinds(s: &[u8], at: usize, n: usize) -> Kinds
     }
 }
 
-// The links as far as they were read.
-fn links_so_far(judged: Judged, from: [u8; 512], to: [u8; 512]) -> Links
-    ensures { λ r. ⌜ r ≡ record { judged = judged; from = from; to = to } ⌝ }
+// Reads the lines of m links, which start at at, in a plan of n bookings, into two lent arrays that come empty: links handed on by
+// value would be copied at each step on their way.
+pub fn read_links(
+    s: &[u8],
+    at: usize,
+    n: usize,
+    m: usize,
+    from: &mut [u8; 512],
+    to: &mut [u8; 512],
+) -> Judged
+    requires { ⌜ (n ≤ mostBookings) × (m ≤ mostLinks) × (at < 65536) × (now from ≡ noLinks) × (now to ≡ noLinks) ⌝ }
+    ensures told { λ r. ⌜ r ≡ linksOf n m 0 (drop at (now (s .entry))) 0 0 noLinks noLinks .judged ⌝ }
+    ensures left { λ _. ⌜ (now (from .exit) ≡ linksOf n m 0 (drop at (now (s .entry))) 0 0 noLinks noLinks .from)
+        × (now (to .exit) ≡ linksOf n m 0 (drop at (now (s .entry))) 0 0 noLinks noLinks .to) ⌝ }
 {
-    Links { judged, from, to }
-}
-
-// Reads the lines of m links, which start at at, in a plan of n bookings.
-pub fn read_links(s: &[u8], at: usize, n: usize, m: usize) -> Links
-    requires { ⌜ (n ≤ mostBookings) × (m ≤ mostLinks) × (at < 65536) ⌝ }
-    ensures { λ r. ⌜ r ≡ linksOf n m 0 (drop at (now (s .entry))) 0 0 noLinks noLinks ⌝ }
-{
-    let mut from = [0u8; 512];
-    let mut to = [0u8; 512];
     let mut last_from = 0;
     let mut last_to = 0;
     let mut i = 0;
@@ -211,13 +205,13 @@ pub fn read_links(s: &[u8], at: usize, n: usize, m: usize) -> Links
                 last_to = v as usize;
             }
             Link::Malformed => {
-                return links_so_far(Judged::Form(n + 2 + i), from, to);
+                return Judged::Form(n + 2 + i);
             }
             Link::OutOfSequence => {
-                return links_so_far(Judged::Sequence(n + 2 + i), from, to);
+                return Judged::Sequence(n + 2 + i);
             }
         }
         i += 1;
     }
-    links_so_far(Judged::Fine, from, to)
+    Judged::Fine
 }

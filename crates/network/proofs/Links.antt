@@ -11,15 +11,17 @@ use lib.Dec.{eqb}
 use lib.ListN.{length, getD, set, replicate, getD-replicate}
 use lib.Seq.{getD-set-same, getD-set-other}
 use Rattle.bounded.specs.Bounded.{any}
-use Rattle.bounded.proofs.Bools.{same?, same-test, and-l, and-no-r, or-false, _&_}
-use Rattle.bounded.proofs.Tests.{any-suc}
+use Rattle.bounded.proofs.Bools.{same?, clash, same-test, and-l, and-no-r, or-false, _&_}
+use Rattle.bounded.proofs.Tests.{any-o, any-suc}
 use Rattle.sets.specs.Sets.{gather, inserted, insert}
-use Rattle.sets.proofs.Gather.{gather-lt, member-gather}
+use Rattle.sets.proofs.Gather.{gather-lt, gather-is, member-gather}
+use Rattle.sets.proofs.Members.{member-zero}
 use Rattle.sets.proofs.Whole.{gather-ext}
-use Rattle.precedence.specs.Precedence.{closureOf}
+use Rattle.precedence.specs.Precedence.{closureOf, EmptyFrom}
+use Rattle.precedence.proofs.Four.{empty-table}
 use Rattle.plan.specs.declared.Plan.{Plan}
 use Rattle.network.specs.declared.Network.{Network}
-use Rattle.network.specs.FromPlan.{joins, linked, directAt, directOf, isFirm, isExposed, ofKind, networkOf}
+use Rattle.network.specs.FromPlan.{joins, linked, directAt, directOf, isFirm, isExposed, ofKind, networkOf, Ends}
 
 module _ (us vs : List ℕ) where
   pub direct-none : (v : ℕ) → v < 64 → getD (replicate 64 0) v 0 ≡ directAt us vs 0 v
@@ -60,6 +62,20 @@ module _ (us vs : List ℕ) where
         ∙ gather-ext (linked us vs i v) (linked us vs (i + 1) v) 64 (λ u k.
         sym (more i v u ∙ ap (λ (b : Bool). linked us vs i v u || b) (elsewhere i v u n) ∙ or-false (linked us vs i v u)))
   ]
+
+  -- nothing comes before a booking past n
+  pub direct-empty : (n m : ℕ) → Ends n us vs m → EmptyFrom n (directOf us vs m)
+  unfolding directOf directAt linked
+  direct-empty n m e =
+      empty-table (directAt us vs m) n (λ v h l.
+      sym (gather-is (linked us vs m v) 64 0 (omega arith) (λ u k. member-zero u ∙ sym (any-o (joins us vs v u) m (λ i j p. clash (joins us vs v u i) p (elsewhere i v u (λ q. omega (arith, e .to i j))))))))
+
+  pub ends-few : (n m : ℕ) → n ≤ 64 → Ends n us vs m → Ends 64 us vs m
+  ends-few n m h e = record {
+    few = e .few;
+    from = λ i l. (e .from i l .0, omega (arith, e .from i l .1));
+    to = λ i l. (e .to i l .0, omega (arith, e .to i l .1));
+  }
 
 pub network-is : (p : Plan) (d b : List ℕ) (f e : ℕ) → d ≡ directOf (p .from) (p .to) (p .m) → b ≡ closureOf d
     → f ≡ gather (ofKind isFirm (p .kind)) (p .n) → e ≡ gather (ofKind isExposed (p .kind)) (p .n)

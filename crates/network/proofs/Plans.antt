@@ -23,15 +23,11 @@ use Rattle.network.specs.FromPlan.{joins, linked, directAt, directOf, ne
 use Rattle.network.specs.Network.{wayOf, inWay, before, pre}
 use Rattle.network.proofs.Facts.{Shape, some-way}
 
-pub valid-fits : (p : Plan) → Valid p → (p .n ≤ 64) × Ends (p .from) (p .to) (p .m)
+pub valid-fits : (p : Plan) → Valid p → (p .n ≤ 64) × Ends (p .n) (p .from) (p .to) (p .m)
 valid-fits p v =
     let h = v .counts .bookings in (
       h,
-      record {
-        few = v .counts .links;
-        from = λ i l. (v .starts i l .0, omega (arith, v .starts i l .1));
-        to = λ i l. (v .ends i l .0, omega (arith, v .ends i l .1));
-      },
+      record { few = v .counts .links; from = v .starts; to = v .ends },
     )
 
 module _ (p : Plan) (v : Valid p) where

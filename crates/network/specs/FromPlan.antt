@@ -61,8 +61,8 @@ networkOf p = record {
   exposed = gather (ofKind isExposed (p .kind)) (p .n);
 }
 
--- what the work on a plan's links relies on: the first m links join numbers from 1 to 64
-pub record Ends (us vs : List ℕ) (m : ℕ) : Type 0 where
+-- what the work on a plan's links relies on: the first m links join numbers from 1 to n
+pub record Ends (n : ℕ) (us vs : List ℕ) (m : ℕ) : Type 0 where
   pub few : m ≤ 512
-  pub from : (i : ℕ) → i < m → (1 ≤ getD us i 0) × (getD us i 0 ≤ 64)
-  pub to : (i : ℕ) → i < m → (1 ≤ getD vs i 0) × (getD vs i 0 ≤ 64)
+  pub from : (i : ℕ) → i < m → (1 ≤ getD us i 0) × (getD us i 0 ≤ n)
+  pub to : (i : ℕ) → i < m → (1 ≤ getD vs i 0) × (getD vs i 0 ≤ n)

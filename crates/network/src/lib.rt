@@ -1,8 +1,9 @@
 // A plan as the rules look at it, its links closed to chains.
-use plan::Plan;
+use plan::Outline;
 ghost use mathlib.Core.Path.{_≡_};
 ghost use Prim.Native.Nat.{_≤_};
 ghost use Rattle.sets.specs.Sets.{gather};
+ghost use Rattle.plan.specs.Outline.{planOf};
 ghost use Rattle.network.specs.FromPlan.{oneOf, isFirm, isExposed, ofKind, directOf, networkOf, Ends};
 
 // A plan as the rules see it. Booking number b is index b - 1 and bit b - 1 of every set; way[k] is way number k + 1.
@@ -53,7 +54,7 @@ fn kinds_of(kind: &[u8; 64], n: usize) -> Kinds
 
 // The direct predecessors of each booking, by the first m links.
 fn direct(from: &[u8; 512], to: &[u8; 512], m: usize) -> [u64; 64]
-    requires { ⌜ Ends (now from) (now to) m ⌝ }
+    requires { ⌜ Ends 64 (now from) (now to) m ⌝ }
     ensures { λ r. ⌜ r ≡ directOf (now (from .entry)) (now (to .entry)) m ⌝ }
 {
     let mut d = [0u64; 64];
@@ -65,21 +66,19 @@ fn direct(from: &[u8; 512], to: &[u8; 512], m: usize) -> [u64; 64]
     d
 }
 
-// What the rules look at in a plan.
-pub fn network_of(p: Plan) -> Network
-    requires { ⌜ (p .n ≤ 64) × Ends (p .from) (p .to) (p .m) ⌝ }
-    ensures { λ r. ⌜ r ≡ networkOf p ⌝ }
+// What the rules look at in a plan, whose links stand beside it.
+pub fn network_of(o: Outline, from: &[u8; 512], to: &[u8; 512]) -> Network
+    requires { ⌜ (o .n ≤ 64) × Ends (o .n) (now from) (now to) (o .m) ⌝ }
+    ensures { λ r. ⌜ r ≡ networkOf (planOf o (now (from .entry)) (now (to .entry))) ⌝ }
 {
-    let kind = p.kind;
-    let from = p.from;
-    let to = p.to;
-    let way = p.way;
-    let links = direct(&from, &to, p.m);
-    let before = precedence::closure(links);
-    let kinds = kinds_of(&kind, p.n);
+    let kind = o.kind;
+    let way = o.way;
+    let links = direct(from, to, o.m);
+    let before = precedence::closure(links, o.n);
+    let kinds = kinds_of(&kind, o.n);
     Network {
-        n: p.n,
-        a: p.a,
+        n: o.n,
+        a: o.a,
         way,
         before,
         firm: kinds.firm,

@@ -6,6 +6,7 @@ ghost use Rattle.bounded.specs.Bounded.{all};
 ghost use Rattle.sets.specs.Sets.{sizeOf};
 ghost use Rattle.plan.specs.Limits.{mostBookings, mostLinks, mostWays, isKind, within, counted, limits, rises, inSequence};
 ghost use Rattle.plan.specs.Judging.{isFine, judgedRefusal, judgedPlace};
+ghost use Rattle.plan.specs.Outline.{planOf};
 ghost use Rattle.plan.specs.Record.{kindAt, linkAt, countAt, withinAt, countsFit, entriesFit, recordOf};
 
 // A plan: n bookings, m links, a ways. Entries past these counts have no meaning.
@@ -17,6 +18,15 @@ pub struct Plan {
     pub kind: [u8; 64],
     pub from: [u8; 512],
     pub to: [u8; 512],
+    pub way: [u64; 16],
+}
+
+// A plan but for its links: its counts, its kinds and its ways.
+pub struct Outline {
+    pub n: usize,
+    pub m: usize,
+    pub a: usize,
+    pub kind: [u8; 64],
     pub way: [u64; 16],
 }
 
@@ -254,6 +264,23 @@ fn record_entries(p: Plan) -> bool
     }
     let way = p.way;
     ways_fit(p.n, p.a, way)
+}
+
+// A plan from its outline and its links.
+pub fn with_links(o: Outline, from: [u8; 512], to: [u8; 512]) -> Plan
+    ensures { λ r. ⌜ r ≡ planOf o from to ⌝ }
+{
+    let kind = o.kind;
+    let way = o.way;
+    Plan {
+        n: o.n,
+        m: o.m,
+        a: o.a,
+        kind,
+        from,
+        to,
+        way,
+    }
 }
 
 // Judges a record: its counts, then its entries.

@@ -1,3 +1,4 @@
 -- The laws of crate `precedence`.
 pub mod Steps
+pub mod Four
 pub mod Chains

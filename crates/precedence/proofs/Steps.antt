@@ -1,18 +1,17 @@
--- One step of the closure, in members, and the laws of the loop over the steps.
+-- One step of the closure, in members; a step through an empty set changes nothing.
 -- Assumes nothing.
 use mathlib.Core.Path.{_≡_, sym, ap, _∙_}
 use mathlib.Core.Logic.{_⊎_, inl, inr, ⊎-elim}
 use mathlib.Core.Bool.{true, false, _&&_, _||_}
 use mathlib.Core.List.{List}
-use Prim.Native.Nat.{ℕ, _+_, _<_}
-use native.Mathlib.Numerals.{add-one}
+use Prim.Native.Nat.{ℕ, _<_}
 use lib.Bits.{bitOr, or-zero-r}
 use lib.ListN.{length, getD}
 use Rattle.bounded.proofs.Bools.{which, or-l, or-r, or-cases, or-false, and-l, and-r, _&_}
 use Rattle.bounded.proofs.Lists.{table-length, table-at, table-is}
 use Rattle.sets.specs.Sets.{member}
 use Rattle.sets.proofs.Members.{member-or}
-use Rattle.precedence.specs.Precedence.{inSet, joinedOf, throughAt, throughOf, closureTo}
+use Rattle.precedence.specs.Precedence.{inSet, joinedOf, throughAt, throughOf}
 
 pub joined-yes : (s via k : ℕ) → member s k ≡ true → bitOr s via ≡ joinedOf s via k
 unfolding joinedOf
@@ -37,18 +36,9 @@ joined-none : (s via k : ℕ) → via ≡ 0 → s ≡ joinedOf s via k
 joined-none s via k z =
     ⊎-elim (λ (e : member s k ≡ true). sym (sym (joined-yes s via k e) ∙ rw z (or-zero-r s))) (λ (e : member s k ≡ false). joined-no s via k e) (which (member s k))
 
-through-none : (p : List ℕ) (k : ℕ) → length p ≡ 64 → getD p k 0 ≡ 0 → p ≡ throughOf p k
+pub through-none : (p : List ℕ) (k : ℕ) → length p ≡ 64 → getD p k 0 ≡ 0 → p ≡ throughOf p k
 unfolding throughOf throughAt
 through-none p k l z = table-is (throughAt p k) 64 p l (λ v h. joined-none (getD p v 0) (getD p k 0) k z)
-
--- a turn of the loop that keeps `p ≡ closureTo d k`
-pub closure-step : (d p : List ℕ) (k : ℕ) → p ≡ closureTo d k → throughOf p k ≡ closureTo d (k + 1)
-unfolding closureTo
-closure-step d p k e = rw (add-one, e)
-
--- a turn without a step, where nothing comes before k
-pub closure-skip : (d p : List ℕ) (k : ℕ) → length p ≡ 64 → getD p k 0 ≡ 0 → p ≡ closureTo d k → p ≡ closureTo d (k + 1)
-closure-skip d p k l z e = through-none p k l z ∙ closure-step d p k e
 
 pub through-length : (p : List ℕ) (k : ℕ) → length (throughOf p k) ≡ 64
 unfolding throughOf

@@ -5,7 +5,7 @@
 use mathlib.Core.Path.{_≡_}
 use mathlib.Core.Bool.{Bool, true, cond}
 use mathlib.Core.List.{List}
-use Prim.Native.Nat.{ℕ, zero, suc, _<_}
+use Prim.Native.Nat.{ℕ, zero, suc, _+_, _≤_, _<_}
 use lib.Bits.{bitOr}
 use lib.ListN.{getD}
 use Rattle.bounded.specs.Bounded.{table}
@@ -31,6 +31,14 @@ throughAt p k v = joinedOf (getD p v 0) (getD p k 0) k
 unfoldable pub throughOf : List ℕ → ℕ → List ℕ
 throughOf p k = table (throughAt p k) 64
 
+-- the set s, with the chains through the four from k on, whose sets are a, b, c and d
+unfoldable pub joinedFour : ℕ → ℕ → ℕ → ℕ → ℕ → ℕ → ℕ
+joinedFour s a b c d k = joinedOf (joinedOf (joinedOf (joinedOf s a k) b (k + 1)) c (k + 2)) d (k + 3)
+
+-- each set, with the chains through the four from k on
+unfoldable pub fourOf : List ℕ → ℕ → List ℕ
+fourOf p k = throughOf (throughOf (throughOf (throughOf p k) (k + 1)) (k + 2)) (k + 3)
+
 -- with the chains through 0, 1, .. k - 1
 unfoldable pub closureTo : List ℕ → ℕ → List ℕ
 closureTo d zero = d
@@ -39,3 +47,7 @@ closureTo d (suc k) = throughOf (closureTo d k) k
 -- with the chains through every booking
 unfoldable pub closureOf : List ℕ → List ℕ
 closureOf d = closureTo d 64
+
+-- the sets from n on are empty
+unfoldable pub EmptyFrom : ℕ → List ℕ → Type 0
+EmptyFrom n p = (v : ℕ) → n ≤ v → getD p v 0 ≡ 0

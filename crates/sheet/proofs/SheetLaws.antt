@@ -1,31 +1,40 @@
--- What the reader of a sheet has in hand at each of its returns.
+-- What the reader of a sheet has in hand at each of its returns: what it tells, and the links in the lent arrays.
 -- Assumes nothing.
 use Prim.Native.Nat.{ℕ, _+_}
-use mathlib.Core.Path.{_≡_, _∙_}
+use mathlib.Core.Path.{_≡_, refl, ap, _∙_}
+use mathlib.Core.Logic.{inl, inr}
 use mathlib.Core.List.{List}
 use mathlib.Core.Bool.{Bool, true, false, not, cond}
 use lib.ListN.{length, take, drop}
 use lib.Dec.{eqb}
 use borrow.Author.Tests.{eq-eqb, ne-eqb, not-true, not-false}
+use Rattle.bounded.proofs.Bools.{which, clash}
 use Rattle.plan.specs.Judging.{isFine}
+use Rattle.plan.specs.Outline.{outlineOf, planOf}
+use Rattle.plan.specs.declared.Judged.{Judged}
 use Rattle.plan.specs.declared.Judged.the-variants.{Fine, Form, Count}
+use Rattle.plan.specs.declared.Plan.{Plan}
 use Rattle.lines.specs.Form.{headBytes, linksPlace, waysPlace}
 use Rattle.lines.specs.Head.{headOf}
-use Rattle.lines.specs.Links.{linksOf, noLinks}
+use Rattle.lines.specs.Links.{Links, linksOf, noLinks}
 use Rattle.lines.specs.declared.Head.{Head}
 use Rattle.lines.specs.declared.Head.the-variants as H
 use Rattle.lines.specs.declared.Kinds.{Kinds}
-use Rattle.lines.specs.declared.Links.{Links}
 use Rattle.ways.specs.Ways.{waysOf, noWays}
 use Rattle.ways.specs.declared.Ways.{Ways}
 use Rattle.sheet.specs.Sheet.{kindsIn, linksIn, waysIn, planIn, refusedOf, endOf, bodyOf, afterHead, sheetOf}
+use Rattle.sheet.specs.Outlined.{outlinedOf, noneRead, bodyLinks, linksAfter, linksRead}
 use Rattle.sheet.specs.declared.Sheet.{Sheet}
+use Rattle.sheet.specs.declared.Outlined.{Outlined}
 
 -- ---- the links and the ways, read where they begin
 
-pub links-there : (n m at : ℕ) (s : List ℕ) (l : Links) → at ≡ linksPlace n → l ≡ linksOf n m 0 (drop at s) 0 0 noLinks noLinks → l ≡ linksIn n m s
+-- the links that a call told and left
+pub links-there : (n m at : ℕ) (s : List ℕ) (j : Judged) (us vs : List ℕ) → at ≡ linksPlace n → j ≡ linksOf n m 0 (drop at s) 0 0 noLinks noLinks .judged
+    → us ≡ linksOf n m 0 (drop at s) 0 0 noLinks noLinks .from → vs ≡ linksOf n m 0 (drop at s) 0 0 noLinks noLinks .to
+    → _≡_ {A = Links} (record { judged = j; from = us; to = vs }) (linksIn n m s)
 unfolding linksIn
-links-there n m at s l e f = rw e at f
+links-there n m at s j us vs e f g h = rw (f, g, h, e)
 
 pub ways-there : (n m a at : ℕ) (s : List ℕ) (w : Ways) → at ≡ waysPlace n m → w ≡ waysOf n (n + m + 2) a 0 at (drop at s) noWays → w ≡ waysIn n m a s
 unfolding waysIn
@@ -33,35 +42,49 @@ ways-there n m a at s w e f = rw e at f
 
 -- ---- the lines after the head: k, l and w are what the calls gave, b, c and d whether these lines are fine
 
+-- what is told of a sheet, and the links that were read
+abbrev pub Out : Sheet → Links → Outlined → List ℕ → List ℕ → Type 0
+Out t l r us vs = (r ≡ outlinedOf t) × ((us ≡ l .from) × (vs ≡ l .to))
+
+-- told as the sheet t, with the links l
+out : (t t′ : Sheet) (l l′ : Links) (r : Outlined) → r ≡ outlinedOf t → t ≡ t′ → l ≡ l′ → Out t′ l′ r (l .from) (l .to)
+out t t′ l l′ r e p q = (e ∙ ap outlinedOf p, (ap (λ (x : Links). x .from) q, ap (λ (x : Links). x .to) q))
+
 module _ (n m a : ℕ) (s : List ℕ) (k : Kinds) (e : k ≡ kindsIn n s) (b : Bool) (t : b ≡ isFine (k .judged)) where
-  pub kinds-refused : not b ≡ true → (r : Sheet) → r ≡ refusedOf (k .judged) → r ≡ bodyOf n m a s
-  unfolding bodyOf
-  kinds-refused q r i = i ∙ rw (← e, ← t, not-true b q)
+  pub kinds-refused : not b ≡ true → (us vs : List ℕ) → us ≡ noLinks → vs ≡ noLinks → (r : Outlined) → r ≡ outlinedOf (refusedOf (k .judged))
+      → Out (bodyOf n m a s) (bodyLinks n m s) r us vs
+  unfolding bodyOf bodyLinks noneRead
+  kinds-refused q us vs eu ev r i = rw (eu, ev) (out (refusedOf (k .judged)) (bodyOf n m a s) noneRead (bodyLinks n m s) r i (rw (← e, ← t, not-true b q)) (rw (← e, ← t, not-true b q)))
 
   module _ (q : not b ≡ false) (l : Links) (f : l ≡ linksIn n m s) (c : Bool) (u : c ≡ isFine (l .judged)) where
-    pub links-refused : not c ≡ true → (r : Sheet) → r ≡ refusedOf (l .judged) → r ≡ bodyOf n m a s
+    links-are : l ≡ bodyLinks n m s
+    unfolding bodyLinks
+    links-are = rw (← e, ← t, not-false b q) f
+
+    pub links-refused : not c ≡ true → (r : Outlined) → r ≡ outlinedOf (refusedOf (l .judged)) → Out (bodyOf n m a s) (bodyLinks n m s) r (l .from) (l .to)
     unfolding bodyOf
-    links-refused p r i = i ∙ rw (← e, ← t, not-false b q, ← f, ← u, not-true c p)
+    links-refused p r i = out (refusedOf (l .judged)) (bodyOf n m a s) l (bodyLinks n m s) r i (rw (← e, ← t, not-false b q, ← f, ← u, not-true c p)) links-are
 
     module _ (p : not c ≡ false) (w : Ways) (g : w ≡ waysIn n m a s) (d : Bool) (v : d ≡ isFine (w .judged)) where
-      pub ways-refused : not d ≡ true → (r : Sheet) → r ≡ refusedOf (w .judged) → r ≡ bodyOf n m a s
+      pub ways-refused : not d ≡ true → (r : Outlined) → r ≡ outlinedOf (refusedOf (w .judged)) → Out (bodyOf n m a s) (bodyLinks n m s) r (l .from) (l .to)
       unfolding bodyOf
-      ways-refused o r i = i ∙ rw (← e, ← t, not-false b q, ← f, ← u, not-false c p, ← g, ← v, not-true d o)
+      ways-refused o r i = out (refusedOf (w .judged)) (bodyOf n m a s) l (bodyLinks n m s) r i (rw (← e, ← t, not-false b q, ← f, ← u, not-false c p, ← g, ← v, not-true d o)) links-are
 
       module _ (o : not d ≡ false) where
-        to-the-end : bodyOf n m a s
-            ≡ cond (eqb (w .next) (length s))
-            (record { judged = Fine; plan = record { n = n; m = m; a = a; kind = k .kind; from = l .from; to = l .to; way = w .way } })
-            (refusedOf (Form (n + m + a + 2)))
+        -- the plan as it was read
+        abbrev whole : Plan
+        whole = record { n = n; m = m; a = a; kind = k .kind; from = l .from; to = l .to; way = w .way }
+
+        to-the-end : bodyOf n m a s ≡ cond (eqb (w .next) (length s)) (record { judged = Fine; plan = whole }) (refusedOf (Form (n + m + a + 2)))
         unfolding bodyOf endOf planIn
         to-the-end = rw (← e, ← t, not-false b q, ← f, ← u, not-false c p, ← g, ← v, not-false d o)
 
-        pub bytes-remain : (w .next ≡ length s → ⊥) → (r : Sheet) → r ≡ refusedOf (Form (n + m + a + 2)) → r ≡ bodyOf n m a s
-        bytes-remain h r i = i ∙ rw (to-the-end, ne-eqb _ _ h)
+        pub bytes-remain : (w .next ≡ length s → ⊥) → (r : Outlined) → r ≡ outlinedOf (refusedOf (Form (n + m + a + 2))) → Out (bodyOf n m a s) (bodyLinks n m s) r (l .from) (l .to)
+        bytes-remain h r i = out (refusedOf (Form (n + m + a + 2))) (bodyOf n m a s) l (bodyLinks n m s) r i (rw (to-the-end, ne-eqb _ _ h)) links-are
 
         pub all-read : w .next ≡ length s
-            → record { judged = Fine; plan = record { n = n; m = m; a = a; kind = k .kind; from = l .from; to = l .to; way = w .way } } ≡ bodyOf n m a s
-        all-read h = rw (to-the-end, eq-eqb _ _ h)
+            → Out (bodyOf n m a s) (bodyLinks n m s) (record { judged = Fine; outline = outlineOf whole }) (l .from) (l .to)
+        all-read h = out (record { judged = Fine; plan = whole }) (bodyOf n m a s) l (bodyLinks n m s) (record { judged = Fine; outline = outlineOf whole }) refl (rw (to-the-end, eq-eqb _ _ h)) links-are
 
 -- ---- the head
 
@@ -70,12 +93,76 @@ module _ (s line : List ℕ) (h : Head) (p : line ≡ take headBytes s) (e : h �
   unfolding sheetOf
   by-head = rw (e, p)
 
-  pub head-form : h ≡ H.Malformed → (r : Sheet) → r ≡ refusedOf (Form 1) → r ≡ sheetOf s
-  head-form g r i = i ∙ rw (by-head, g)
+  links-by-head : linksRead s ≡ linksAfter h s
+  unfolding linksRead
+  links-by-head = rw (e, p)
 
-  pub head-count : h ≡ H.OutOfLimits → (r : Sheet) → r ≡ refusedOf (Count 1) → r ≡ sheetOf s
-  head-count g r i = i ∙ rw (by-head, g)
+  module _ (us vs : List ℕ) (eu : us ≡ noLinks) (ev : vs ≡ noLinks) where
+    pub head-form : h ≡ H.Malformed → (r : Outlined) → r ≡ outlinedOf (refusedOf (Form 1)) → Out (sheetOf s) (linksRead s) r us vs
+    unfolding noneRead
+    head-form g r i = rw (eu, ev) (out (refusedOf (Form 1)) (sheetOf s) noneRead (linksRead s) r i (rw (by-head, g)) (rw (links-by-head, g)))
+
+    pub head-count : h ≡ H.OutOfLimits → (r : Outlined) → r ≡ outlinedOf (refusedOf (Count 1)) → Out (sheetOf s) (linksRead s) r us vs
+    unfolding noneRead
+    head-count g r i = rw (eu, ev) (out (refusedOf (Count 1)) (sheetOf s) noneRead (linksRead s) r i (rw (by-head, g)) (rw (links-by-head, g)))
 
   module _ (n m a : ℕ) (g : h ≡ H.Counts n m a) where
-    pub head-right : (r : Sheet) → r ≡ bodyOf n m a s → r ≡ sheetOf s
-    head-right r i = i ∙ rw (by-head, g)
+    pub head-right : (us vs : List ℕ) (r : Outlined) → Out (bodyOf n m a s) (bodyLinks n m s) r us vs → Out (sheetOf s) (linksRead s) r us vs
+    head-right us vs r o = rw (by-head, links-by-head, g) o
+
+-- ---- the whole sheet
+
+-- a sheet is refused, and then its plan is empty; or it is fine, and the links of its plan are those that were read
+data Reading : Sheet → Links → Type 0 where
+  refuses : (j : Judged) (l : Links) → isFine j ≡ false → Reading (refusedOf j) l
+  reads : (p : Plan) (l : Links) → p .from ≡ l .from → p .to ≡ l .to → Reading (record { judged = Fine; plan = p }) l
+
+-- on past lines that are fine
+past-reads : (j : Judged) (t : Sheet) (l l′ : Links) → Reading t l → Reading (cond (isFine j) t (refusedOf j)) (cond (isFine j) l l′)
+past-reads j t l l′ r = elim (which (isFine j)) [
+  | inl e ↦ rw e r
+  | inr e ↦ rw e (refuses j l′ e)
+]
+
+past-same : (j : Judged) (t : Sheet) (l : Links) → Reading t l → Reading (cond (isFine j) t (refusedOf j)) l
+past-same j t l r = elim (which (isFine j)) [
+  | inl e ↦ rw e r
+  | inr e ↦ rw e (refuses j l e)
+]
+
+end-reads : (n m a : ℕ) (s : List ℕ) → Reading (endOf n m a s) (linksIn n m s)
+unfolding endOf planIn
+end-reads n m a s = elim (which (eqb (waysIn n m a s .next) (length s))) [
+  | inl e ↦ rw e (reads _ (linksIn n m s) refl refl)
+  | inr e ↦ rw e (refuses (Form (n + m + a + 2)) (linksIn n m s) refl)
+]
+
+reading : (s : List ℕ) → Reading (sheetOf s) (linksRead s)
+unfolding sheetOf linksRead bodyOf bodyLinks
+reading s = go (headOf (take headBytes s))
+  where
+    go : (h : Head) → Reading (afterHead h s) (linksAfter h s)
+    go (H.Counts n m a) =
+        past-reads (kindsIn n s .judged) _ (linksIn n m s) noneRead
+        (past-same (linksIn n m s .judged) _ (linksIn n m s) (past-same (waysIn n m a s .judged) (endOf n m a s) (linksIn n m s) (end-reads n m a s)))
+    go H.Malformed = refuses (Form 1) noneRead refl
+    go H.OutOfLimits = refuses (Count 1) noneRead refl
+
+-- what is told of a sheet is fine: its plan has the links that were read
+plan-reads : {t : Sheet} {l : Links} → Reading t l → isFine (t .judged) ≡ true → (record { judged = Fine; plan = planOf (outlineOf (t .plan)) (l .from) (l .to) }) ≡ t
+unfolding refusedOf
+plan-reads (refuses j l n) f = clash (isFine j) f n
+plan-reads (reads p l u v) f = rw (← u, ← v)
+
+-- it is refused: its plan is empty
+plan-empty : {t : Sheet} {l : Links} → Reading t l → isFine (t .judged) ≡ false → refusedOf (t .judged) ≡ t
+unfolding refusedOf
+plan-empty (refuses j l n) f = refl
+plan-empty (reads p l u v) f = clash true refl f
+
+pub read-fine : (s : List ℕ) → isFine (sheetOf s .judged) ≡ true
+    → _≡_ {A = Sheet} (record { judged = Fine; plan = planOf (outlineOf (sheetOf s .plan)) (linksRead s .from) (linksRead s .to) }) (sheetOf s)
+read-fine s f = plan-reads (reading s) f
+
+pub read-refused : (s : List ℕ) → isFine (sheetOf s .judged) ≡ false → refusedOf (sheetOf s .judged) ≡ sheetOf s
+read-refused s f = plan-empty (reading s) f

@@ -14,11 +14,10 @@ use Rattle.plan.specs.declared.Plan.{Plan}
 use Rattle.lines.specs.Form.{headBytes, linksPlace, waysPlace}
 use Rattle.lines.specs.Head.{headOf}
 use Rattle.lines.specs.Kinds.{kindsOf, noKinds}
-use Rattle.lines.specs.Links.{linksOf, noLinks}
+use Rattle.lines.specs.Links.{Links, linksOf, noLinks}
 use Rattle.lines.specs.declared.Head.{Head}
 use Rattle.lines.specs.declared.Head.the-variants.{Counts, Malformed, OutOfLimits}
 use Rattle.lines.specs.declared.Kinds.{Kinds}
-use Rattle.lines.specs.declared.Links.{Links}
 use Rattle.ways.specs.Ways.{waysOf, noWays}
 use Rattle.ways.specs.declared.Ways.{Ways}
 use Rattle.sheet.specs.declared.Sheet.{Sheet}

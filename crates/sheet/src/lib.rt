@@ -1,20 +1,28 @@
 // Reads a plan sheet: its plan, or the first line that is refused and why.
 use lines::Head;
 use lines::Kinds;
-use lines::Links;
 use plan::Judged;
+use plan::Outline;
 use plan::Plan;
 use ways::Ways;
 ghost use mathlib.Core.Path.{_≡_};
 ghost use Prim.Native.Nat.{_≤_};
 ghost use Rattle.plan.specs.declared.Judged.the-variants.{Fine};
 ghost use Rattle.plan.specs.Limits.{mostBookings, mostLinks, mostWays};
-ghost use Rattle.sheet.specs.Sheet.{kindsIn, linksIn, waysIn, refusedOf, bodyOf, sheetOf};
+ghost use Rattle.lines.specs.Links.{noLinks};
+ghost use Rattle.sheet.specs.Sheet.{kindsIn, waysIn, refusedOf, bodyOf, sheetOf};
+ghost use Rattle.sheet.specs.Outlined.{outlinedOf, bodyLinks, linksRead};
 
 // What a sheet is, and its plan, which is empty where the sheet is refused.
 pub struct Sheet {
     pub judged: Judged,
     pub plan: Plan,
+}
+
+// The same but for the links, which stand beside it.
+pub struct Outlined {
+    pub judged: Judged,
+    pub outline: Outline,
 }
 
 // A refused sheet.
@@ -31,6 +39,20 @@ fn refused(j: Judged) -> Sheet
         way: [0u64; 16],
     };
     Sheet { judged: j, plan }
+}
+
+// A refused sheet, but for the links.
+fn no_outline(j: Judged) -> Outlined
+    ensures { λ r. ⌜ r ≡ outlinedOf (refusedOf j) ⌝ }
+{
+    let outline = Outline {
+        n: 0,
+        m: 0,
+        a: 0,
+        kind: [0u8; 64],
+        way: [0u64; 16],
+    };
+    Outlined { judged: j, outline }
 }
 
 // A sheet without a fault, with its plan.
@@ -51,14 +73,6 @@ fn kinds_in(s: &[u8], n: usize) -> Kinds
     lines::read_kinds(s, lines::HEAD_BYTES, n)
 }
 
-// The m links of a sheet of n bookings.
-fn links_in(s: &[u8], n: usize, m: usize) -> Links
-    requires { ⌜ (n ≤ mostBookings) × (m ≤ mostLinks) ⌝ }
-    ensures { λ r. ⌜ r ≡ linksIn n m (now (s .entry)) ⌝ }
-{
-    lines::read_links(s, lines::links_place(n), n, m)
-}
-
 // The a ways of a sheet of n bookings and m links.
 fn ways_in(s: &[u8], n: usize, m: usize, a: usize) -> Ways
     requires { ⌜ (n ≤ mostBookings) × (m ≤ mostLinks) × (a ≤ mostWays) ⌝ }
@@ -67,53 +81,70 @@ fn ways_in(s: &[u8], n: usize, m: usize, a: usize) -> Ways
     ways::read_ways(s, lines::ways_place(n, m), n, a, n + m + 2)
 }
 
-// Reads the lines after the head of a sheet with n bookings, m links and a ways.
-fn read_body(s: &[u8], n: usize, m: usize, a: usize) -> Sheet
-    requires { ⌜ (n ≤ mostBookings) × (m ≤ mostLinks) × (a ≤ mostWays) ⌝ }
-    ensures { λ r. ⌜ r ≡ bodyOf n m a (now (s .entry)) ⌝ }
+// Reads the lines after the head of a sheet with n bookings, m links and a ways; the links go into two lent arrays, which come empty.
+fn read_body(
+    s: &[u8],
+    n: usize,
+    m: usize,
+    a: usize,
+    from: &mut [u8; 512],
+    to: &mut [u8; 512],
+) -> Outlined
+    requires { ⌜ (n ≤ mostBookings) × (m ≤ mostLinks) × (a ≤ mostWays) × (now from ≡ noLinks) × (now to ≡ noLinks) ⌝ }
+    ensures told { λ r. ⌜ r ≡ outlinedOf (bodyOf n m a (now (s .entry))) ⌝ }
+    ensures left { λ _. ⌜ (now (from .exit) ≡ bodyLinks n m (now (s .entry)) .from) × (now (to .exit) ≡ bodyLinks n m (now (s .entry)) .to) ⌝ }
 {
     let k = kinds_in(s, n);
     let kj = k.judged;
     if !plan::is_fine(kj) {
-        return refused(kj);
+        return no_outline(kj);
     }
-    let l = links_in(s, n, m);
-    let lj = l.judged;
+    let lj = lines::read_links(s, lines::links_place(n), n, m, from, to);
     if !plan::is_fine(lj) {
-        return refused(lj);
+        return no_outline(lj);
     }
     let w = ways_in(s, n, m, a);
     let wj = w.judged;
     if !plan::is_fine(wj) {
-        return refused(wj);
+        return no_outline(wj);
     }
     let next = w.next;
     if next != s.len() {
-        return refused(Judged::Form(n + m + a + 2));
+        return no_outline(Judged::Form(n + m + a + 2));
     }
     let kind = k.kind;
-    let from = l.from;
-    let to = l.to;
     let way = w.way;
-    let plan = Plan {
-        n,
-        m,
-        a,
-        kind,
-        from,
-        to,
-        way,
-    };
-    fine(plan)
+    let outline = Outline { n, m, a, kind, way };
+    Outlined {
+        judged: Judged::Fine,
+        outline,
+    }
 }
 
-// Reads a sheet, whatever its bytes are and however many.
+// Reads a sheet, whatever its bytes are and however many; the links go into two lent arrays, which come empty.
+pub fn read_outline(s: &[u8], from: &mut [u8; 512], to: &mut [u8; 512]) -> Outlined
+    requires { ⌜ (now from ≡ noLinks) × (now to ≡ noLinks) ⌝ }
+    ensures told { λ r. ⌜ r ≡ outlinedOf (sheetOf (now (s .entry))) ⌝ }
+    ensures left { λ _. ⌜ (now (from .exit) ≡ linksRead (now (s .entry)) .from) × (now (to .exit) ≡ linksRead (now (s .entry)) .to) ⌝ }
+{
+    match lines::read_head(decimal::part(s, 0, lines::HEAD_BYTES)) {
+        Head::Counts(n, m, a) => read_body(s, n, m, a, from, to),
+        Head::Malformed => no_outline(Judged::Form(1)),
+        Head::OutOfLimits => no_outline(Judged::Count(1)),
+    }
+}
+
+// Reads a sheet to a plan.
 pub fn read_sheet(s: &[u8]) -> Sheet
     ensures { λ r. ⌜ r ≡ sheetOf (now (s .entry)) ⌝ }
 {
-    match lines::read_head(decimal::part(s, 0, lines::HEAD_BYTES)) {
-        Head::Counts(n, m, a) => read_body(s, n, m, a),
-        Head::Malformed => refused(Judged::Form(1)),
-        Head::OutOfLimits => refused(Judged::Count(1)),
+    let mut from = [0u8; 512];
+    let mut to = [0u8; 512];
+    let read = read_outline(s, &mut from, &mut to);
+    let judged = read.judged;
+    if !plan::is_fine(judged) {
+        return refused(judged);
     }
+    let outline = read.outline;
+    fine(plan::with_links(outline, from, to))
 }

@@ -1,17 +1,23 @@
 -- `network::network_of` meets its contract.
 -- Assumes nothing.
-use Rattle.network.proofs.Links.{network-is}
+use denote.Ref.{now}
 use borrow.Author.Needs.{needs}
+use Rattle.plan.specs.Outline.{planOf}
+use Rattle.network.proofs.Links.{direct-empty, ends-few, network-is}
 use Rattle.network.proofs.network_of.Statement.{statement}
 use Rattle.network.proofs.network_of.Tie as tie
 
 direct-requires : tie.Need-direct-requires
-direct-requires c κs = c .before .before .before .before .before .before .pre .1
+direct-requires c κs = let a = c .before .before in ends-few (now (a .args .from)) (now (a .args .to)) _ _ (a .pre .0) (a .pre .1)
+
+closure-requires : tie.Need-closure-requires
+closure-requires c κs = let a = c .before .before .before in (a .pre .0, rw (c .direct .ensures) (direct-empty (now (a .args .from)) (now (a .args .to)) _ _ (a .pre .1)))
 
 returns : tie.Need-returns
 returns c =
     let d = c .before .before in
-    network-is _ _ _ _ _ (d .before .direct .ensures) (d .closure .ensures) (c .kinds-of .ensures .0) (c .kinds-of .ensures .1)
+    let a = d .before .before .before .before .args in
+    network-is (planOf (a .o) (now (a .from)) (now (a .to))) _ _ _ _ (d .before .direct .ensures) (d .closure .ensures) (c .kinds-of .ensures .0) (c .kinds-of .ensures .1)
 
 pub network-of-spec : {M : Type 1} → statement M
-network-of-spec = tie.close (tie.spec direct-requires (search needs) (search needs) returns)
+network-of-spec = tie.close (tie.spec direct-requires closure-requires (search needs) returns)

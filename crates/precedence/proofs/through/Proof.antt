@@ -5,31 +5,43 @@ use Prim.Native.Nat.{ℕ, _≤_, _<_, _-_}
 use native.Mathlib.Omega.{arith}
 use borrow.Author.Count.{below-none}
 use lib.ListN.{length, getD, length-set}
-use Rattle.bounded.proofs.Lists.{table-put, table-is}
-use Rattle.precedence.specs.Precedence.{throughAt, throughOf}
+use Rattle.bounded.proofs.Lists.{table-put}
+use Rattle.precedence.specs.Precedence.{fourOf, EmptyFrom}
+use Rattle.precedence.proofs.Four.{none-yet, empty-put, four-at, four-is}
 use Rattle.precedence.proofs.through.Statement.{statement}
 use Rattle.precedence.proofs.through.Tie as tie
 
 abbrev Inv-loop : tie.InvT-loop
-Inv-loop k p via r₀ v₀ r v = (v ≤ 64) × (length r ≡ 64) × ((i : ℕ) → i < v → getD r i 0 ≡ throughAt p k i)
+Inv-loop k n p a b c d r₀ v₀ r v = (v ≤ n) × (length r ≡ 64) × ((i : ℕ) → i < v → getD r i 0 ≡ getD (fourOf p k) i 0) × EmptyFrom v r
 
 abbrev μ-loop : tie.MeasureT-loop
-μ-loop k p via r₀ v₀ r v = 64 - v
+μ-loop k n p a b c d r₀ v₀ r v = n - v
 
 loop-holds : tie.Need-loop-holds Inv-loop μ-loop
-loop-holds c = (omega arith, refl, below-none _)
+loop-holds c = (omega arith, refl, below-none _, none-yet)
 
 loop-again : tie.Need-loop-again Inv-loop μ-loop
-unfolding throughAt
-loop-again c = let i = c .before .before .loop in (
+loop-again c = let l = c .before .before .loop in let f = c .before .before .before in let a = f .before .before .before .before .before .before in (
   omega arith,
-  simp length-set (i .inv .1),
-  table-put _ (i .r) (i .v) _ (omega arith) (c .joined .ensures) (i .inv .2),
+  simp length-set (l .inv .1),
+  table-put (λ i. getD (fourOf (a .args .t1) (a .args .k)) i 0) (l .r) (l .v) _ (omega arith)
+      (four-at (a .args .t1) (a .args .k) (l .v) (omega arith) (omega arith)
+      (f .before .before .before .before .before .joined .ensures)
+      (f .before .before .before .before .joined2 .ensures)
+      (f .before .before .before .joined3 .ensures)
+      (f .before .before .joined4 .ensures)
+      (f .before .joined5 .ensures)
+      (f .joined6 .ensures)
+      (c .joined-four .ensures))
+      (l .inv .2),
+  empty-put _ _ _ (l .inv .3),
 )
 
 returns : tie.Need-returns Inv-loop μ-loop
-unfolding throughOf
-returns c = table-is _ 64 _ (c .before .loop .inv .1) (λ i l. c .before .loop .inv .2 i (omega arith))
+returns c =
+    let l = c .before .loop in let a = c .before .before .before .before .before .before .before .before in
+    let e : l .v ≡ a .args .n = omega arith in
+    four-is (a .args .n) _ _ _ (a .pre .2) (l .inv .1) (λ i h. l .inv .2 i (omega arith)) (rw e at (l .inv .3))
 
 pub through-spec : {M : Type 1} → statement M
 through-spec =
@@ -37,15 +49,33 @@ through-spec =
     (tie.spec
     Inv-loop
     μ-loop
-    (λ c. omega arith)
-    (λ c. omega arith)
+    (omega arith)
+    (omega arith)
+    (omega arith)
+    (omega arith)
+    (omega arith)
+    (omega arith)
+    (omega arith)
+    (omega arith)
+    (omega arith)
+    (omega arith)
+    (omega arith)
+    (omega arith)
+    (omega arith)
+    (omega arith)
+    (omega arith)
+    (omega arith)
+    (omega arith)
+    (omega arith)
+    (omega arith)
+    (omega arith)
     loop-holds
-    (λ c. omega arith)
-    (λ c. omega arith)
-    (λ c κs. omega arith)
-    (λ c. omega arith)
-    (λ c. omega arith)
-    (λ c. omega arith)
-    (λ c. omega arith)
+    (omega arith)
+    (omega arith)
+    (omega arith)
+    (omega arith)
+    (omega arith)
+    (omega arith)
+    (omega arith)
     loop-again
     returns)

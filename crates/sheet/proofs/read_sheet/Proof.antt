@@ -1,35 +1,46 @@
 -- `sheet::read_sheet` meets its contract.
 -- Assumes nothing.
-use Rattle.sheet.proofs.SheetLaws.{head-form, head-count, head-right}
+use mathlib.Core.Path.{_≡_, refl, sym, ap, _∙_}
+use mathlib.Core.Bool.{true, false}
 use borrow.Author.Needs.{needs}
-use Rattle.lines.proofs.RoundTrip.{head-limits}
+use borrow.Author.Tests.{not-true, not-false}
+use Rattle.plan.specs.Judging.{isFine}
+use Rattle.plan.specs.declared.Judged.{Judged}
+use Rattle.lines.specs.Links.{noLinks}
+use Rattle.sheet.specs.Sheet.{refusedOf, sheetOf}
+use Rattle.sheet.specs.declared.Outlined.{Outlined}
+use Rattle.sheet.proofs.SheetLaws.{read-fine, read-refused}
 use Rattle.sheet.proofs.read_sheet.Statement.{statement}
 use Rattle.sheet.proofs.read_sheet.Tie as tie
 
-read-body-requires : tie.Need-read-body-requires
-read-body-requires c κs = let l = head-limits _ _ _ _ _ (c .before .before .before .read-head .ensures) (c .before .n .given .1) in (l .bookings, l .links, l .ways)
+read-outline-requires : tie.Need-read-outline-requires
+unfolding noLinks
+read-outline-requires c κs = (refl, refl)
+
+-- whether the sheet is fine
+judged : (c : tie.After-is-fine) → c .is-fine .result ≡ isFine (sheetOf (c .before .before .before .before .before .args .s .now) .judged)
+judged c = c .is-fine .ensures ∙ ap (λ (x : Outlined). isFine (x .judged)) (c .before .read-outline .ensures .0)
 
 returns : tie.Need-returns
-returns c = search head-right
+returns c =
+    let f = c .before .before in
+    c .refused .ensures ∙ ap (λ (x : Outlined). refusedOf (x .judged)) (f .before .read-outline .ensures .0)
+    ∙ read-refused _ (sym (judged f) ∙ not-true _ (c .before .if1 .taken))
 
 returns-2 : tie.Need-returns-2
-returns-2 c = search head-form
-
-returns-3 : tie.Need-returns-3
-returns-3 c = search head-count
+returns-2 c =
+    let f = c .before .before .before .before in
+    let o = f .before .read-outline .ensures in
+    c .fine .ensures ∙ rw (c .before .with-links .ensures, o .0, o .1 .0, o .1 .1) (read-fine _ (sym (judged f) ∙ not-false _ (c .before .before .before .if1 .left)))
 
 pub read-sheet-spec : {M : Type 1} → statement M
 read-sheet-spec =
     tie.close
     (tie.spec
-    (search needs)
-    (search needs)
-    (search needs)
-    read-body-requires
-    (search needs)
-    (search needs)
+    read-outline-requires
     (search needs)
     (search needs)
     returns
-    returns-2
-    returns-3)
+    (search needs)
+    (search needs)
+    returns-2)
