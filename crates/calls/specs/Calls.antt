@@ -3,7 +3,7 @@
 -- Assumes nothing.
 use mathlib.Core.Bool.{Bool, true, false, _&&_, cond}
 use mathlib.Core.List.{List}
-use Prim.Native.Nat.{ℕ, suc}
+use Prim.Native.Nat.{ℕ, suc, _+_}
 use lib.Dec.{eqb}
 use lib.ListN.{length, replicate}
 use Rattle.plan.specs.Judging.{isFine, judgedRefusal, judgedPlace}
@@ -88,10 +88,27 @@ lookedAt g r = record { sound = true; bits = 0; network = g; run = r; standing =
 unfoldable pub takenUp : List ℕ → List ℕ → Campaign
 takenUp s bs = cond (inOrder s bs) (lookedAt (networkIn s) (runOf bs)) (turnedAway (refusedWith s))
 
--- the place in what next order answers
+-- what next order answers: its kind, and as its place a booking's number or, where the campaign is flown, the way
+unfoldable pub orderKind : Order → ℕ
+orderKind (Request x) = 1
+orderKind (Return x) = 2
+orderKind Wait = 3
+orderKind (Flown w) = 4
+orderKind Off = 5
+
+unfoldable pub orderBooking : Order → ℕ
+orderBooking (Request x) = suc x
+orderBooking (Return x) = suc x
+orderBooking Wait = 0
+orderBooking (Flown w) = 0
+orderBooking Off = 0
+
+unfoldable pub orderWay : Order → ℕ
+orderWay (Request x) = 0
+orderWay (Return x) = 0
+orderWay Wait = 0
+orderWay (Flown w) = w
+orderWay Off = 0
+
 unfoldable pub orderPlace : Order → ℕ
-orderPlace (Request x) = suc x
-orderPlace (Return x) = suc x
-orderPlace Wait = 0
-orderPlace (Flown w) = w
-orderPlace Off = 0
+orderPlace o = orderBooking o + orderWay o

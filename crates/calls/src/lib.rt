@@ -14,7 +14,7 @@ ghost use Rattle.verdict.specs.Check.{verdictPlace};
 ghost use Rattle.run.specs.State.{standing};
 ghost use Rattle.guarantee.specs.Answers.{pack, orderBits, place9, replyBits, checkBits};
 ghost use Rattle.guarantee.specs.Machine.{nextOrder, replied, replyTo};
-ghost use Rattle.calls.specs.Calls.{noNetwork, passes, judgedBits, checkedOf, orderPlace, checkCall, startCall, startLeaves, askedCall, askedLeaves, turnedAway, takenUp};
+ghost use Rattle.calls.specs.Calls.{noNetwork, passes, judgedBits, checkedOf, orderKind, orderBooking, orderWay, orderPlace, checkCall, startCall, startLeaves, askedCall, askedLeaves, turnedAway, takenUp};
 
 // What is worked out of a sheet before anything else: whether it passes, what check answers, and what the rules look at.
 pub struct Checked {
@@ -77,17 +77,51 @@ fn is_pass(v: Verdict) -> bool
     }
 }
 
+// What next order answers, in three parts: one match over all would become a table of jumps, and the gateway has no room for tables.
+fn order_kind(o: Order) -> u32
+    ensures { λ r. ⌜ r ≡ orderKind o ⌝ }
+{
+    match o {
+        Order::Request(_) => 1,
+        Order::Return(_) => 2,
+        Order::Wait => 3,
+        Order::Flown(_) => 4,
+        Order::Off => 5,
+    }
+}
+
+// The number of the booking that an order is for, or 0.
+fn order_booking(o: Order) -> usize
+    requires { ⌜ orderPlace o < 65536 ⌝ }
+    ensures { λ r. ⌜ r ≡ orderBooking o ⌝ }
+{
+    match o {
+        Order::Request(x) => x + 1,
+        Order::Return(x) => x + 1,
+        Order::Wait => 0,
+        Order::Flown(_) => 0,
+        Order::Off => 0,
+    }
+}
+
+// The way by which the campaign is flown, or 0.
+fn order_way(o: Order) -> usize
+    ensures { λ r. ⌜ r ≡ orderWay o ⌝ }
+{
+    match o {
+        Order::Request(_) => 0,
+        Order::Return(_) => 0,
+        Order::Wait => 0,
+        Order::Flown(w) => w as usize,
+        Order::Off => 0,
+    }
+}
+
 fn order_bits(o: Order) -> u32
     requires { ⌜ orderPlace o < 65536 ⌝ }
     ensures { λ r. ⌜ r ≡ orderBits o ⌝ }
 {
-    match o {
-        Order::Request(x) => pack(1, 0, x + 1),
-        Order::Return(x) => pack(2, 0, x + 1),
-        Order::Wait => pack(3, 0, 0),
-        Order::Flown(w) => pack(4, 0, w as usize),
-        Order::Off => pack(5, 0, 0),
-    }
+    pack(order_kind(o), 0, order_booking(o) + order_way(o))
 }
 
 // The place of refusal 9.

@@ -6,9 +6,8 @@ use mathlib.Core.Bool.{Bool, true, not, _&&_, false}
 use Prim.Native.Nat.{ℕ, _<_, zero, suc, _^_}
 use native.Mathlib.Nat.{zero-mul, zero-add, le-refl}
 use native.Mathlib.Omega.{arith}
-use lib.Dec.{eqb}
 use lib.Bits.{bitAnd, bitOr}
-use borrow.Author.Tests.{eqb-true, eq-eqb, ne-eqb, not-true, not-false}
+use borrow.Author.Tests.{eq-eqb, ne-eqb, not-true, not-false}
 use Rattle.bounded.proofs.Bools.{clash, split?, imp-e, imp-i, off, and-l, and-r, not-i, which, _&_, or-cases, or-l, or-r}
 use Rattle.bounded.proofs.Tests.{all-i, all-e, all-n}
 use Rattle.sets.specs.Sets.{member, gather, kept, subsetOf, apart, disjointFrom, some, only, without}
@@ -90,9 +89,15 @@ module _ (a b i : ℕ) where
 
 -- ---- not empty
 
+pub empty-n : (s i : ℕ) → s ≡ 0 → member s i ≡ false
+empty-n s i z = ap (λ (t : ℕ). member t i) z ∙ member-zero i
+
+pub nonzero-i : (s i : ℕ) → member s i ≡ true → s ≢ 0
+nonzero-i s i e z = clash (member s i) e (empty-n s i z)
+
 pub some-i : (s i : ℕ) → member s i ≡ true → some s ≡ true
 unfolding some
-some-i s i e = not-i _ (off (eqb s 0) (λ z. clash (member s i) e (ap (λ (t : ℕ). member t i) (eqb-true s 0 z) ∙ member-zero i)))
+some-i s i e = not-i _ (ne-eqb s 0 (nonzero-i s i e))
 
 pub some-e : (f : ℕ → Bool) (n : ℕ) → some (gather f n) ≡ true → (i : ℕ) × (i < n) × (f i ≡ true)
 unfolding gather some

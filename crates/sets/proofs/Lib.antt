@@ -5,3 +5,4 @@ pub mod Facts
 pub mod Operations
 pub mod Whole
 pub mod Insert
+pub mod Walk

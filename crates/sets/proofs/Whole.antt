@@ -7,7 +7,7 @@ use Prim.Native.Nat.{ℕ, zero, suc, _-_, _^_, _≤_, _<_}
 use native.Mathlib.Nat.{lt-of-le-of-lt, pow-suc}
 use native.Mathlib.Omega.{arith}
 use lib.Pow.{pow-pos}
-use lib.Bits.{bitAnd, and-le-l}
+use lib.Bits.{bitAnd, and-le-l, and-le-r}
 use Rattle.bounded.proofs.Bools.{split?, and-no-l}
 use Rattle.bounded.specs.Bounded.{all}
 use Rattle.sets.specs.Sets.{member, gather, only, without, always, allBelow}
@@ -42,3 +42,8 @@ pub below-is : (n : ℕ) → allBelow n ≡ 2 ^ n - 1
 unfolding allBelow always gather
 below-is zero = refl
 below-is (suc n) = omega (arith, below-is n, pow-suc 2 n, pow-pos n)
+
+-- a set cut to them, with the set b that `all_below` gave
+pub cut-fits : (s b n : ℕ) → b ≡ allBelow n → n ≤ 64 → bitAnd s b < 2 ^ 64
+unfolding allBelow
+cut-fits s b n e h = lt-of-le-of-lt (and-le-r s b) (rw e (gather-fits always n h))

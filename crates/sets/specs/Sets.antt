@@ -4,7 +4,7 @@
 use mathlib.Core.Bool.{Bool, true, not, _&&_, _||_}
 use Prim.Native.Nat.{ℕ, zero, suc, _+_, _*_, _/_, _%_, _^_}
 use lib.Dec.{eqb}
-use Rattle.bounded.specs.Bounded.{imp, one, all, count}
+use Rattle.bounded.specs.Bounded.{imp, one, all, first, count}
 
 -- the set of i alone
 abbrev pub alone : ℕ → ℕ
@@ -43,6 +43,10 @@ only a b i = member a i && not (member b i)
 
 unfoldable pub without : ℕ → ℕ → ℕ
 without a b = gather (only a b) 64
+
+-- the members of s but the lowest
+unfoldable pub butLowest : ℕ → ℕ
+butLowest s = without s (alone (first (member s) 64))
 
 -- every member of a is a member of b
 unfoldable pub kept : ℕ → ℕ → ℕ → Bool

@@ -3,7 +3,7 @@
 ghost use mathlib.Core.Path.{_≡_};
 ghost use Prim.Native.Nat.{_≤_, _<_};
 ghost use Rattle.bounded.specs.Bounded.{first};
-ghost use Rattle.sets.specs.Sets.{alone, member, allBelow, without, subsetOf, disjointFrom, sizeOf};
+ghost use Rattle.sets.specs.Sets.{alone, member, allBelow, without, butLowest, subsetOf, disjointFrom, sizeOf};
 
 // The set of index i alone.
 pub fn bit(i: usize) -> u64
@@ -66,4 +66,12 @@ pub fn lowest(s: u64) -> usize
     ensures { λ r. ⌜ r ≡ first (member s) 64 ⌝ }
 {
     u64::trailing_zeros(s) as usize
+}
+
+// The members of s but the lowest. In s - 1 it is cleared, and those below it are set, which s lacks.
+pub fn but_lowest(s: u64) -> u64
+    requires { ⌜ 0 < s ⌝ }
+    ensures { λ r. ⌜ r ≡ butLowest s ⌝ }
+{
+    s & (s - 1)
 }

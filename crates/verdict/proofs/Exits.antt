@@ -1,23 +1,24 @@
 -- What the code of the check answers at each of its exits.
 -- Assumes nothing.
-use mathlib.Core.Path.{_≡_, sym, ap, _∙_}
+use mathlib.Core.Path.{_≡_, refl, sym, ap, _∙_}
 use mathlib.Core.Logic.{_≢_}
 use mathlib.Core.Bool.{Bool, true, false, not, _&&_, cond}
 use mathlib.Core.List.{List}
 use Prim.Native.Nat.{ℕ, suc, _+_, _≤_, _<_}
 use native.Mathlib.Nat.{le-refl}
+use native.Mathlib.Omega.{arith}
 use native.Mathlib.Numerals.{add-one}
-use borrow.Author.Tests.{lt-ltb, le-ltb, not-true, not-false}
+use borrow.Author.Tests.{lt-ltb, le-ltb}
 use lib.Dec.{ltb}
 use lib.Bits.{bitAnd}
 use lib.ListN.{getD}
 use Rattle.bounded.specs.Bounded.{any, first}
-use Rattle.bounded.proofs.Bools.{clash, and-l, and-r, and-no-l, and-no-r, and-go}
+use Rattle.bounded.proofs.Bools.{clash, and-l, and-r, and-no-l, and-no-r, and-go, _&_}
 use Rattle.bounded.proofs.Tests.{any-i, any-o}
+use Rattle.bounded.proofs.First.{first-least}
 use Rattle.bounded.proofs.Loops.{So-far, first-at, first-over}
-use Rattle.sets.specs.Sets.{member, some}
-use Rattle.sets.proofs.Members.{member-and, member-zero}
-use Rattle.sets.proofs.Facts.{some-e, some-on, some-off}
+use Rattle.sets.specs.Sets.{member, some, always, allBelow}
+use Rattle.sets.proofs.Facts.{gather-e, gather-i, both-e, both-i, empty-n, some-e, some-on, some-off}
 use Rattle.network.specs.declared.Network.{Network}
 use Rattle.verdict.specs.declared.Verdict.{Verdict}
 use Rattle.verdict.specs.declared.Verdict.the-variants.{Pass, Unclosed, Unused, Repeated, Stranding}
@@ -26,26 +27,36 @@ use Rattle.verdict.specs.Check.{unclosed, unused, repeated, stays, stayi
 
 -- ---- 8: one way and one booking
 
-module _ (g : Network) (ws : List ℕ) (k x : ℕ) (same : ws ≡ g .way) (b : Bool) (e : b ≡ member (bitAnd (g .exposed) (getD ws k 0)) x) where
-  exposed-is : b ≡ exposed g x && inWay g (suc k) x
-  unfolding exposed inWay wayOf
-  exposed-is = e ∙ rw same (member-and (g .exposed) (getD (g .way) k 0) x)
-
-  pub not-exposed : not b ≡ true → false ≡ stranding g (suc k) x
+module _ (g : Network) (k x s : ℕ) (q : s ≡ staying g (suc k) x) where
+  pub nothing-stays : s ≡ 0 → false ≡ stranding g (suc k) x
   unfolding stranding
-  not-exposed n = sym (and-no-l (exposed g x && inWay g (suc k) x) _ (sym exposed-is ∙ not-true b n))
+  nothing-stays z = sym (and-no-r (exposed g x && inWay g (suc k) x) _ (and-no-l (some (staying g (suc k) x)) _ (some-off s (staying g (suc k) x) q z)))
 
-  module _ (s : ℕ) (q : s ≡ staying g (suc k) x) where
-    pub nothing-stays : s ≡ 0 → false ≡ stranding g (suc k) x
-    unfolding stranding
-    nothing-stays z = sym (and-no-r (exposed g x && inWay g (suc k) x) _ (and-no-l (some (staying g (suc k) x)) _ (some-off s (staying g (suc k) x) q z)))
+  pub sheltered : exposed g x ≡ true → inWay g (suc k) x ≡ true → s ≢ 0 → (r : Bool) → r ≡ any (laterRefuge g (suc k) x) (g .a) → not r ≡ stranding g (suc k) x
+  unfolding stranding
+  sheltered e i d r p =
+      ap not p
+      ∙ and-go (some (staying g (suc k) x)) _ (some-on s (staying g (suc k) x) q d)
+      ∙ and-go (exposed g x && inWay g (suc k) x) _ (e & i)
 
-    pub sheltered : not b ≡ false → s ≢ 0 → (r : Bool) → r ≡ any (laterRefuge g (suc k) x) (g .a) → not r ≡ stranding g (suc k) x
-    unfolding stranding
-    sheltered n d r p =
-        ap not p
-        ∙ and-go (some (staying g (suc k) x)) _ (some-on s (staying g (suc k) x) q d)
-        ∙ and-go (exposed g x && inWay g (suc k) x) _ (sym exposed-is ∙ not-false b n)
+-- ---- 8: one way
+
+-- only the exposed bookings of the way are tried, of those below n, which are b
+module _ (g : Network) (ws : List ℕ) (k b : ℕ) (same : ws ≡ g .way) (eb : b ≡ allBelow (g .n)) where
+  pub tried-e : (x : ℕ) → member (bitAnd (bitAnd (g .exposed) (getD ws k 0)) b) x ≡ true → (x < g .n) × (exposed g x ≡ true) × (inWay g (suc k) x ≡ true)
+  unfolding exposed inWay wayOf allBelow
+  tried-e x e =
+      let t = both-e (bitAnd (g .exposed) (getD ws k 0)) b x e in
+      let u = both-e (g .exposed) (getD ws k 0) x (t .0) in
+      (gather-e always (g .n) x (rw eb at (t .1)) .0, u .0, rw same at (u .1))
+
+  pub tried-i : (x : ℕ) → x < g .n → stranding g (suc k) x ≡ true → member (bitAnd (bitAnd (g .exposed) (getD ws k 0)) b) x ≡ true
+  unfolding stranding exposed inWay wayOf allBelow always
+  tried-i x h e =
+      let t = and-l (exposed g x && inWay g (suc k) x) _ e in
+      both-i (bitAnd (g .exposed) (getD ws k 0)) b x
+      (both-i (g .exposed) (getD ws k 0) x (and-l (exposed g x) _ t) (rw same (and-r (exposed g x) _ t)))
+      (rw eb (gather-i always (g .n) x h refl))
 
 -- ---- 8: all of them
 
@@ -57,18 +68,23 @@ module _ (g : Network) where
       any-o (stranding g (suc k)) (g .n) (λ x l e.
       let t = some-e (stays g (suc k) x) (g .n) (and-l (some (staying g (suc k) x)) _ (and-r (exposed g x && inWay g (suc k) x) _ e)) in
       let f = and-l (firm g (t .0)) _ (and-l (firm g (t .0) && inWay g (suc k) (t .0)) _ (t .2)) in
-      clash (firm g (t .0)) f (ap (λ (s : ℕ). member s (t .0)) z ∙ member-zero (t .0)))
+      clash (firm g (t .0)) f (empty-n (g .firm) (t .0) z))
 
   pub none-strand : (k : ℕ) → So-far (strands g) k → g .a ≤ k → Pass ≡ firstStranding g
   none-strand k s h = let e : first (strands g) (g .a) ≡ g .a = sym (first-over (strands g) (g .a) k s h) in rw (e, le-ltb (g .a) (g .a) (le-refl (g .a)))
 
-  pub one-strands : (k x : ℕ) → So-far (strands g) k → k < g .a → So-far (stranding g (suc k)) x → x < g .n → stranding g (suc k) x ≡ true
-      → Stranding (k + 1) x ≡ firstStranding g
-  unfolding strands
-  one-strands k x s h t l e =
-      let p : k ≡ first (strands g) (g .a) = first-at (strands g) (g .a) k s h (any-i (stranding g (suc k)) (g .n) x l e) in
-      let q : x ≡ first (stranding g (suc k)) (g .n) = first-at (stranding g (suc k)) (g .n) x t l e in
-      rw (← p, lt-ltb k (g .a) h, ← q, add-one)
+  -- x is the lowest booking of way k + 1 that strands
+  module _ (k x : ℕ) (e : x ≡ first (stranding g (suc k)) (g .n)) where
+    pub one-strands : So-far (strands g) k → k < g .a → x < g .n → Stranding (k + 1) x ≡ firstStranding g
+    unfolding strands
+    one-strands s h l =
+        let f : stranding g (suc k) x ≡ true = rw e (first-least (stranding g (suc k)) (g .n) .at (omega arith)) in
+        let p : k ≡ first (strands g) (g .a) = first-at (strands g) (g .a) k s h (any-i (stranding g (suc k)) (g .n) x l f) in
+        rw (← p, lt-ltb k (g .a) h, ← e, add-one)
+
+    pub no-strand : g .n ≤ x → strands g k ≡ false
+    unfolding strands
+    no-strand h = any-o (stranding g (suc k)) (g .n) (λ i l f. clash (stranding g (suc k) i) f (first-least (stranding g (suc k)) (g .n) .before i (omega arith)))
 
 -- ---- the verdict: what is left of the check from each refusal on
 

@@ -1,23 +1,25 @@
 -- The tests of the check over the sets that its loops look at, that they are the tests of the network, and the turns of the loops that fill a set.
 -- Here ps has the predecessors of each booking, ws the ways, us each booking with its predecessors.
 -- Assumes nothing.
-use mathlib.Core.Path.{_≡_, refl, sym, ap, ap₂, _∙_}
-use mathlib.Core.Logic.{inl, inr}
+use mathlib.Core.Path.{_≡_, sym, ap, ap₂, _∙_}
+use mathlib.Core.Logic.{_≢_, inl, inr}
 use mathlib.Core.Bool.{Bool, true, false, not, _&&_, _||_}
 use mathlib.Core.List.{List}
 use Prim.Native.Nat.{ℕ, suc, _+_, _^_, _≤_, _<_, suc-le-suc}
+use native.Mathlib.Nat.{lt-of-le-of-lt}
 use borrow.Author.Tests.{lt-ltb, le-ltb}
 use lib.Dec.{eqb, ltb}
-use lib.Bits.{bitAnd, bitOr, or-lt}
+use lib.Bits.{bitAnd, bitOr, and-le-l, or-lt}
 use lib.ListN.{getD}
 use Rattle.bounded.specs.Bounded.{imp, any, all, first}
-use Rattle.bounded.proofs.Bools.{which, and-no-l, and-no-r, and-go, and-true, and-mid, or-swap, neither, _&_}
-use Rattle.bounded.proofs.Tests.{any-suc, any-ext, all-suc, all-ext}
+use Rattle.bounded.proofs.Bools.{which, and-no-l, and-no-r, and-go, and-true, and-mid, and-assoc, or-swap, neither, _&_}
+use Rattle.bounded.proofs.Tests.{any-suc, any-ext, all-ext}
 use Rattle.bounded.proofs.First.{first-ext}
-use Rattle.sets.specs.Sets.{member, gather, kept, subsetOf, always, allBelow}
+use Rattle.sets.specs.Sets.{member, gather, kept, subsetOf, always, allBelow, butLowest}
 use Rattle.sets.proofs.Members.{member-and, member-or, member-power}
 use Rattle.sets.proofs.Gather.{gather-is, gather-lt, gather-put, gather-skip, member-gather}
 use Rattle.sets.proofs.Whole.{gather-ext, gather-and}
+use Rattle.sets.proofs.Walk.{but-lowest-fits, every, every-zero, every-lowest, every-gather}
 use Rattle.network.specs.declared.Network.{Network}
 use Rattle.network.specs.Network.{wayOf, inWay, before, pre, firm, exposed}
 use Rattle.verdict.specs.Check.{circular, gap, unclosed, usedBy, unused, sameWay, repeated, stays, staying, leadsTo, settledBy, safe, refuge, laterRefuge}
@@ -100,42 +102,56 @@ module _ (g : Network) where
 
 -- ---- 8: what is settled
 
--- y equals or precedes i, if i is in s; so it is for each i below n
-unfoldable pub leads : List ℕ → ℕ → ℕ → ℕ → Bool
-leads us s y i = imp (member s i) (member (getD us i 0) y)
+-- y equals or precedes i
+unfoldable pub leads : List ℕ → ℕ → ℕ → Bool
+leads us y i = member (getD us i 0) y
 
-unfoldable pub leadsAll : List ℕ → ℕ → ℕ → ℕ → Bool
-leadsAll us s n y = all (leads us s y) n
+-- a walk over s that has rest left: with what leads to all of rest, r gives what leads to all of s
+pub record Leading (us : List ℕ) (s rest r : ℕ) : Type 0 where
+  pub rest-fits : rest < 2 ^ 64
+  pub fits : r < 2 ^ 64
+  pub so-far : (y : ℕ) → y < 64 → member r y && every (leads us y) rest ≡ every (leads us y) s
 
-pub leads-none : (us : List ℕ) (s : ℕ) → allBelow 64 ≡ gather (leadsAll us s 0) 64
-unfolding leadsAll all allBelow always
-leads-none us s = gather-ext always (leadsAll us s 0) 64 (λ y l. refl)
+module _ (us : List ℕ) (s : ℕ) where
+  pub leads-none : (r : ℕ) → s < 2 ^ 64 → r ≡ allBelow 64 → Leading us s s r
+  unfolding allBelow always
+  leads-none r h e = record {
+    rest-fits = h;
+    fits = rw e (gather-lt always 64);
+    so-far = λ y l. rw e (sym (and-go (member (allBelow 64) y) _ (member-gather always 64 y l)));
+  }
 
-module _ (us : List ℕ) (s i : ℕ) where
-  pub leads-more : member s i ≡ true → bitAnd (gather (leadsAll us s i) 64) (getD us i 0) ≡ gather (leadsAll us s (i + 1)) 64
-  unfolding leadsAll leads
-  leads-more e =
-      gather-and (leadsAll us s i) 64 (getD us i 0)
-      ∙ gather-ext _ (leadsAll us s (i + 1)) 64 (λ y l. sym (all-suc (leads us s y) i ∙ rw e))
+  -- m is the member taken out, rest′ what the code left
+  pub leads-more : (rest m rest′ r : ℕ) → rest ≢ 0 → m ≡ first (member rest) 64 → rest′ ≡ butLowest rest
+      → Leading us s rest r → Leading us s rest′ (bitAnd r (getD us m 0))
+  unfolding leads
+  leads-more rest m rest′ r d em er l = record {
+    rest-fits = rw er (but-lowest-fits rest);
+    fits = lt-of-le-of-lt (and-le-l r (getD us m 0)) (l .fits);
+    so-far = λ y h.
+        rw (member-and r (getD us m 0) y, er)
+        (and-assoc (member r y) (member (getD us m 0) y) (every (leads us y) (butLowest rest))
+        ∙ ap (λ (b : Bool). member r y && b) (rw em (sym (every-lowest (leads us y) rest (l .rest-fits) d)))
+        ∙ l .so-far y h);
+  }
 
-  pub leads-same : member s i ≡ false → gather (leadsAll us s i) 64 ≡ gather (leadsAll us s (i + 1)) 64
-  unfolding leadsAll leads
-  leads-same e =
-      gather-ext (leadsAll us s i) (leadsAll us s (i + 1)) 64 (λ y l. sym (all-suc (leads us s y) i ∙ rw e (and-true (all (leads us s y) i))))
+  pub leads-all : (rest r : ℕ) → rest ≡ 0 → Leading us s rest r → (y : ℕ) → y < 64 → member r y ≡ every (leads us y) s
+  leads-all rest r z l y h = sym (and-true (member r y)) ∙ ap (λ (b : Bool). member r y && b) (sym (every-zero (leads us y))) ∙ rw z at (l .so-far y h)
 
 module _ (g : Network) (w x s : ℕ) (e : s ≡ staying g w x) where
-  leading-is : (us : List ℕ) → Upto g us → (y : ℕ) → leadsAll us s (g .n) y ≡ all (leadsTo g w x y) (g .n)
-  unfolding leadsAll leads leadsTo staying
-  leading-is us up y =
-      all-ext _ (leadsTo g w x y) (g .n) (λ i m. ap₂ imp (ap (λ (t : ℕ). member t i) e ∙ member-gather (stays g w x) (g .n) i m)
-      (ap (λ (t : ℕ). member t y) (up i m) ∙ upto-member g i y ∙ or-swap (pre g y i) (eqb y i)))
+  leading-is : (us : List ℕ) → g .n ≤ 64 → Upto g us → (y : ℕ) → every (leads us y) s ≡ all (leadsTo g w x y) (g .n)
+  unfolding leads leadsTo staying
+  leading-is us h up y =
+      ap (every (leads us y)) e
+      ∙ every-gather (leads us y) (stays g w x) (g .n) h
+      ∙ all-ext _ (leadsTo g w x y) (g .n) (λ i m. ap (imp (stays g w x i)) (ap (λ (t : ℕ). member t y) (up i m) ∙ upto-member g i y ∙ or-swap (pre g y i) (eqb y i)))
 
-  pub settled-is : (us : List ℕ) (b : ℕ) → Upto g us → b ≡ before g x → b < 2 ^ 64 → bitOr b (gather (leadsAll us s (g .n)) 64) ≡ gather (settledBy g w x) 64
+  pub settled-is : (us : List ℕ) (b r : ℕ) → g .n ≤ 64 → Upto g us → b ≡ before g x → b < 2 ^ 64 → r < 2 ^ 64
+      → ((y : ℕ) → y < 64 → member r y ≡ every (leads us y) s) → bitOr b r ≡ gather (settledBy g w x) 64
   unfolding settledBy pre
-  settled-is us b up eb h =
-      gather-is (settledBy g w x) 64 _ (or-lt 64 b (gather (leadsAll us s (g .n)) 64) h (gather-lt (leadsAll us s (g .n)) 64))
-      (λ y l. member-or b (gather (leadsAll us s (g .n)) 64) y
-      ∙ ap₂ (λ (p q : Bool). p || q) (ap (λ (t : ℕ). member t y) eb) (member-gather (leadsAll us s (g .n)) 64 y l ∙ leading-is us up y))
+  settled-is us b r n up eb hb hr h =
+      gather-is (settledBy g w x) 64 _ (or-lt 64 b r hb hr)
+      (λ y l. member-or b r y ∙ ap₂ (λ (p q : Bool). p || q) (ap (λ (t : ℕ). member t y) eb) (h y l ∙ leading-is us n up y))
 
 -- ---- 8: the refuges
 

@@ -1,12 +1,13 @@
 // The check of a network: refusals 4 to 8.
 use network::Network;
 ghost use mathlib.Core.Path.{_≡_};
-ghost use mathlib.Core.Bool.{not, _&&_, cond};
+ghost use mathlib.Core.Bool.{true, not, _&&_, cond};
 ghost use Prim.Native.Nat.{suc, _≤_, _<_};
 ghost use lib.Bits.{bitAnd, bitOr};
 ghost use lib.ListN.{length, replicate};
 ghost use Rattle.bounded.specs.Bounded.{any, first};
 ghost use Rattle.sets.specs.Sets.{member, gather, subsetOf};
+ghost use Rattle.network.specs.Network.{inWay, exposed};
 ghost use Rattle.verdict.specs.Check.{circular, unclosed, unused, repeated, staying, settledBy, laterRefuge, stranding, firstStranding, check};
 ghost use Rattle.verdict.specs.Parts.{PutUnless, Upto, Stay, PointOf};
 
@@ -144,10 +145,11 @@ fn settled_by(g: Network, upto: &[u64; 64], p: Point, s: u64) -> u64
     ensures { λ r. ⌜ r ≡ gather (settledBy g (suc (p .k)) (p .x)) 64 ⌝ }
 {
     let mut r = sets::all_below(64);
-    for i in 0..g.n {
-        if sets::has(s, i) {
-            r = r & upto[i];
-        }
+    let mut rest = s;
+    while rest != 0 {
+        let i = sets::lowest(rest);
+        r = r & upto[i];
+        rest = sets::but_lowest(rest);
     }
     p.before | r
 }
@@ -177,22 +179,49 @@ fn has_refuge(g: Network, way: &[u64; 16], p: Point, settled: u64) -> bool
     false
 }
 
-// Whether x is an exposed booking of way k + 1 that leaves something firm behind with no later way to go to.
+// Whether x, an exposed booking of way k + 1, leaves something firm behind with no later way to go to.
 fn is_stranding(g: Network, way: &[u64; 16], upto: &[u64; 64], p: Point) -> bool
-    requires { ⌜ (now way ≡ g .way) × Upto g (now upto) × PointOf g p × (g .n ≤ 64) × (g .a ≤ 16) × (p .k < g .a) × (p .x < g .n) ⌝ }
+    requires { ⌜ (now way ≡ g .way) × Upto g (now upto) × PointOf g p × (g .n ≤ 64) × (g .a ≤ 16) × (p .k < g .a) × (exposed g (p .x) ≡ true) × (inWay g (suc (p .k)) (p .x) ≡ true) ⌝ }
     ensures { λ r. ⌜ r ≡ stranding g (suc (p .k)) (p .x) ⌝ }
 {
     let k = p.k;
-    let here = way[k];
-    if !sets::has(g.exposed & here, p.x) {
-        return false;
-    }
-    let s = p.stay & here;
+    let s = p.stay & way[k];
     if s == 0 {
         return false;
     }
     let settled = settled_by(g, upto, p, s);
     !has_refuge(g, way, p, settled)
+}
+
+// The lowest booking of way k + 1 that strands, or n. Only exposed ones can; those below n are tried, as the sets may have others.
+fn lowest_stranding(
+    g: Network,
+    way: &[u64; 16],
+    before: &[u64; 64],
+    upto: &[u64; 64],
+    stay: &[u64; 64],
+    k: usize,
+) -> usize
+    requires { ⌜ (now way ≡ g .way) × (now before ≡ g .before) × Upto g (now upto) × Stay g (now stay) × (g .n ≤ 64) × (g .a ≤ 16) × (k < g .a) ⌝ }
+    ensures { λ r. ⌜ r ≡ first (stranding g (suc k)) (g .n) ⌝ }
+{
+    let mut rest = g.exposed & way[k] & sets::all_below(g.n);
+    while rest != 0 {
+        let x = sets::lowest(rest);
+        let b = before[x];
+        let s = stay[x];
+        let p = Point {
+            k,
+            x,
+            before: b,
+            stay: s,
+        };
+        if is_stranding(g, way, upto, p) {
+            return x;
+        }
+        rest = sets::but_lowest(rest);
+    }
+    g.n
 }
 
 // 8: the first way in which some booking strands, and the lowest such booking.
@@ -207,18 +236,9 @@ fn first_stranding(g: Network, way: &[u64; 16], before: &[u64; 64]) -> Verdict
     let mut stay = [0u64; 64];
     find_spans(g, before, &mut upto, &mut stay);
     for k in 0..g.a {
-        for x in 0..g.n {
-            let b = before[x];
-            let s = stay[x];
-            let p = Point {
-                k,
-                x,
-                before: b,
-                stay: s,
-            };
-            if is_stranding(g, way, &upto, p) {
-                return Verdict::Stranding(k + 1, x);
-            }
+        let x = lowest_stranding(g, way, before, &upto, &stay, k);
+        if x < g.n {
+            return Verdict::Stranding(k + 1, x);
         }
     }
     Verdict::Pass
