@@ -10,7 +10,7 @@ use Rattle.run.specs.Bytes.{bytesOf, runOf}
 use Rattle.calls.specs.Calls.{networkIn, takenUp}
 use Rattle.calls.specs.declared.Campaign.{Campaign}
 use Rattle.calls.proofs.Exits.{not-taken, in-order, size, taken-is, run-is, ready}
-use Rattle.block_calls.proofs.Codes.{codes-size}
+use Rattle.lent_state.proofs.Bytes.{codes-size}
 use Rattle.block_calls.proofs.Few.{kept-few, fault-few}
 use Rattle.block_calls.specs.Block.{linesOf, Block, blockOf, bitsOf, blockBits, blockIn, blockCall, blockLeaves}
 

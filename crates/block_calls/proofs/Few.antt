@@ -6,7 +6,7 @@ use mathlib.Core.Bool.{true}
 use mathlib.Core.List.{List, [], _∷_}
 use Prim.Native.Nat.{ℕ, zero, suc, _+_, _≤_, _<_}
 use native.Mathlib.Omega.{arith}
-use lib.ListN.{length, drop, length-set}
+use lib.ListN.{length, drop}
 use lib.Seq.{getD-set-same, getD-set-other}
 use Rattle.bounded.specs.Bounded.{sum}
 use Rattle.bounded.proofs.Bools.{which, clash}
@@ -20,7 +20,8 @@ use Rattle.run.specs.declared.Replied.{Replied}
 use Rattle.run.proofs.Cases.{ReplyCase, misfit, confirmed, refused, again, returned, kept, reply-case}
 use Rattle.guarantee.specs.Machine.{replyTo}
 use Rattle.guarantee.proofs.Moved.{awaits}
-use Rattle.journal_calls.proofs.Lines.{settle-codes}
+use Rattle.run.proofs.Exits.{settle-codes}
+use Rattle.lent_state.proofs.Limits.{numbered-size}
 use Rattle.event_lines.specs.declared.Line.{Line}
 use Rattle.event_lines.specs.declared.Line.the-variants.{Given, Misformed}
 use Rattle.block_calls.specs.Block.{keptOf, faultOf, blockOf}
@@ -40,16 +41,16 @@ opens-few : (r : Run) → opens r ≤ 64
 unfolding opens
 opens-few r = omega (arith, sum-most (λ b. awaits (code r b)) 1 64 (λ k h. awaits-one (code r k)))
 
--- one reply fewer, and as many codes
-abbrev pub Fewer : Run → Run → Type 0
-Fewer r t = (opens t + 1 ≡ opens r) × (length (t .code) ≡ 64)
+-- one reply fewer
+abbrev Fewer : Run → Run → Type 0
+Fewer r t = opens t + 1 ≡ opens r
 
 module _ (g : Network) (few : g .n ≤ 64) (r : Run) (size : length (r .code) ≡ 64) where
   put-fewer : (x v : ℕ) → x < g .n → awaits (code r x) ≡ 1 → awaits v ≡ 0 → Fewer r (put r x v)
   unfolding opens code
   put-fewer x v h o n =
       let now : awaits (code (put r x v) x) ≡ 0 = rw (getD-set-same (r .code) x v 0 (omega arith)) n in
-      (omega (arith, now, sum-one (λ b. awaits (code (put r x v) b)) (λ b. awaits (code r b)) 64 x (omega arith) (λ b d. ap awaits (getD-set-other (r .code) x b v 0 d))), length-set (r .code) x v ∙ size)
+      omega (arith, now, sum-one (λ b. awaits (code (put r x v) b)) (λ b. awaits (code r b)) 64 x (omega arith) (λ b d. ap awaits (getD-set-other (r .code) x b v 0 d)))
 
   -- the switch changes no code
   settle-fewer : (s : Run) → Fewer r s → Fewer r (settle g s)
@@ -64,7 +65,7 @@ module _ (g : Network) (few : g .n ≤ 64) (r : Run) (size : length (r .code) �
   reply-fewer l x (returned h m e) d = put-fewer x free h (rw m) refl
   reply-fewer l x (kept h m e) d = put-fewer x held h (rw m) refl
 
-  pub numbered-fewer : (l b : ℕ) → replyTo g r l b .taken ≡ true → Fewer r (replyTo g r l b .run)
+  numbered-fewer : (l b : ℕ) → replyTo g r l b .taken ≡ true → Fewer r (replyTo g r l b .run)
   unfolding replyTo
   numbered-fewer l zero d = clash true refl (sym d)
   numbered-fewer l (suc x) d = reply-fewer l x (reply-case g r l x) d
@@ -74,7 +75,7 @@ module _ (g : Network) (few : g .n ≤ 64) where
   unfolding keptOf
   kept-fewer r size [] = omega arith
   kept-fewer r size (Given l b ∷ lines) = elim (which (replyTo g r l b .taken)) [
-    | inl e ↦ (let f = numbered-fewer g few r size l b e in rw e (omega (arith, f .0, kept-fewer (replyTo g r l b .run) (f .1) lines)))
+    | inl e ↦ rw e (omega (arith, numbered-fewer g few r size l b e, kept-fewer (replyTo g r l b .run) (numbered-size g r size l b) lines))
     | inr e ↦ rw e (omega arith)
   ]
   kept-fewer r size (Misformed ∷ lines) = omega arith

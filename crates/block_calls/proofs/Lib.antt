@@ -1,5 +1,4 @@
 -- The laws of crate `block_calls`.
-pub mod Codes
 pub mod Taking
 pub mod Few
 pub mod Exits

@@ -1,14 +1,16 @@
--- One turn of taking a block: what its next line is, what comes of it, and that what is left of the block gives the whole answer.
+-- A block from a place on: what its next line is, what comes of it, and that the loop that takes whole lines gives what the rules say of it.
 -- Assumes nothing.
 use mathlib.Core.Path.{_≡_, refl, sym, ap, _∙_}
+use mathlib.Core.Logic.{inl, inr}
 use mathlib.Core.Bool.{true, false}
 use mathlib.Core.List.{List, [], _∷_}
-use Prim.Native.Nat.{ℕ, zero, suc, _+_, _-_, _/_, _≤_, _<_}
+use Prim.Native.Nat.{ℕ, zero, suc, _+_, _-_, _/_, _%_, _≤_, _<_}
 use native.Mathlib.Nat.{sub-zero}
 use native.Mathlib.Omega.{arith}
 use lib.ListN.{length, take, drop, length-drop}
 use lib.Seq.{take-all, drop-drop}
-use Rattle.bounded.proofs.Bools.{clash}
+use borrow.Author.Tests.{eq-eqb, ne-eqb}
+use Rattle.bounded.proofs.Bools.{clash, same?, which}
 use Rattle.network.specs.declared.Network.{Network}
 use Rattle.run.specs.Bytes.{bytesOf}
 use Rattle.run.specs.Replies.{misfits}
@@ -16,13 +18,12 @@ use Rattle.run.specs.declared.Run.{Run}
 use Rattle.run.specs.declared.Replied.{Replied}
 use Rattle.run.proofs.Cases.{ReplyCase, misfit, confirmed, refused, again, returned, kept, reply-case}
 use Rattle.guarantee.specs.Machine.{replyTo, after, final}
-use Rattle.event_lines.specs.Line.{lineOf}
+use Rattle.event_lines.specs.Line.{lineOf, isOrder}
 use Rattle.event_lines.specs.declared.Line.{Line}
 use Rattle.event_lines.specs.declared.Line.the-variants.{Given, Misformed}
 use Rattle.event_lines.proofs.LineLaws.{other-size}
-use Rattle.journal_calls.specs.Journal.{isOrder}
-use Rattle.journal_calls.proofs.Lines.{numbered-few}
-use Rattle.block_calls.specs.Block.{linesFrom, linesOf, keptOf, faultOf, Block, blockOf}
+use Rattle.lent_state.specs.Lines.{lineBy, lineFault, Lines, takenFrom, takenOf}
+use Rattle.block_calls.specs.Block.{linesFrom, linesOf, keptOf, faultOf, Block, blockOf, withTail}
 
 -- ---- the lines from a place on
 
@@ -76,26 +77,6 @@ pub misformed-misfits : (g : Network) (r : Run) → replyOn g r Misformed .taken
 unfolding replyOn
 misformed-misfits g r = refl
 
--- what does not fit changes nothing
-unmoved : (g : Network) (r : Run) (l x : ℕ) {t : Replied} → ReplyCase g r l x t → t .taken ≡ false → t .run ≡ r
-unmoved g r l x misfit d = refl
-unmoved g r l x (confirmed h m e) d = clash true refl d
-unmoved g r l x (refused h m e z) d = clash true refl d
-unmoved g r l x (again h m e z) d = clash true refl d
-unmoved g r l x (returned h m e) d = clash true refl d
-unmoved g r l x (kept h m e) d = clash true refl d
-
-pub misfit-stays : (g : Network) (r : Run) (l b : ℕ) → replyTo g r l b .taken ≡ false → replyTo g r l b .run ≡ r
-unfolding replyTo
-misfit-stays g r l zero d = refl
-misfit-stays g r l (suc x) d = unmoved g r l x (reply-case g r l x) d
-
--- the way stays within its limit
-pub reply-few : (g : Network) → g .a ≤ 16 → (r : Run) → r .way ≤ 16 → (line : Line) → replyOn g r line .run .way ≤ 16
-unfolding replyOn
-reply-few g few r h (Given l b) = numbered-few g few r h l b
-reply-few g few r h Misformed = h
-
 -- ---- a block from its first line on
 
 -- k replies before it
@@ -147,6 +128,50 @@ module _ (g : Network) (block : List ℕ) where
       pub one-kept : replyOn g r line .taken ≡ true → rest (at + 6) (k + 1) (replyOn g r line .run) ≡ rest at k r
       one-kept n = rw (lines-more block at room, ← el, block-on g r line (linesAt block (at + 6)) n) (with-kept _ _ (omega arith))
 
+-- ---- the whole lines, by the loop that takes lines
+
+-- a line of which no order is taken is a reply's
+line-reply : (g : Network) (r : Run) (line : Line) → lineBy false g r line ≡ replyOn g r line
+unfolding lineBy replyOn
+line-reply g r (Given l b) = refl
+line-reply g r Misformed = refl
+
+-- what is wrong with one is what the rules say
+fault-same : (n : ℕ) (line : Line) → withTail (lineFault line) n ≡ faultOf (line ∷ [])
+unfolding withTail lineFault faultOf
+fault-same n (Given l b) = refl
+fault-same n Misformed = refl
+
+module _ (g : Network) (block : List ℕ) where
+  -- the whole lines taken, with what is left after them
+  abbrev finished : Lines → Block
+  finished t = record { kept = t .kept; fault = withTail (t .fault) (length block); run = t .run }
+
+  block-from : (more at k : ℕ) (r : Run) → more ≡ (length block - at) / 6 → at ≤ length block → at % 6 ≡ 0
+      → finished (takenFrom false more k g r (drop at block)) ≡ rest g block at k r
+  unfolding takenFrom withTail
+  block-from zero at k r e h m = elim (same? at (length block)) [
+    | inl z ↦ rw (eq-eqb (length block % 6) 0 (omega arith)) (none-after g block at k r z)
+    | inr z ↦ rw (ne-eqb (length block % 6) 0 (λ q. z (omega arith))) (tail-after g block at k r h z (omega arith))
+  ]
+  block-from (suc more) at k r e h m =
+      let line : Line = lineOf (take 6 (drop at block)) in
+      let room : at + 6 ≤ length block = omega arith in
+      elim (which (replyOn g r line .taken)) [
+        | inl z ↦ (rw (line-reply g r line, z, drop-drop 6 at block)
+            (block-from more (at + 6) (k + 1) (replyOn g r line .run) (omega arith) room (omega arith)
+            ∙ one-kept g block at k r room line refl z))
+        | inr z ↦ (rw (line-reply g r line, z) (ap (λ (f : ℕ). record { kept = k; fault = f; run = r }) (fault-same (length block) line) ∙ bad-line g block at k r room line refl z))
+      ]
+
+  pub block-is : (r : Run) → finished (takenOf false g r block) ≡ blockOf g r (linesOf block)
+  unfolding takenOf
+  block-is r = block-from (length block / 6) 0 0 r (simp sub-zero refl) (omega arith) refl ∙ all-left g block r
+
 -- what is told of a block, and the state's bytes
-pub told : (t b : Block) (state : List ℕ) → t ≡ b → state ≡ bytesOf (t .run) → ((t .kept ≡ b .kept) × (t .fault ≡ b .fault)) × (state ≡ bytesOf (b .run))
-told t b state e w = ((ap (λ (x : Block). x .kept) e, ap (λ (x : Block). x .fault) e), w ∙ ap (λ (x : Block). bytesOf (x .run)) e)
+pub told : (g : Network) (block : List ℕ) (r : Run) (k f : ℕ) → k ≡ takenOf false g r block .kept → f ≡ withTail (takenOf false g r block .fault) (length block)
+    → (state : List ℕ) → state ≡ bytesOf (takenOf false g r block .run)
+    → ((k ≡ blockOf g r (linesOf block) .kept) × (f ≡ blockOf g r (linesOf block) .fault)) × (state ≡ bytesOf (blockOf g r (linesOf block) .run))
+told g block r k f ek ef state w =
+    let e = block-is g block r in
+    ((ek ∙ ap (λ (x : Block). x .kept) e, ef ∙ ap (λ (x : Block). x .fault) e), w ∙ ap (λ (x : Block). bytesOf (x .run)) e)

@@ -2,7 +2,7 @@
 -- Assumes nothing.
 use mathlib.Core.Bool.{cond}
 use mathlib.Core.List.{List, [], _∷_}
-use Prim.Native.Nat.{ℕ, zero, suc, _+_, _/_}
+use Prim.Native.Nat.{ℕ, zero, suc, _+_, _/_, _%_}
 use lib.Dec.{eqb}
 use lib.ListN.{length, take, drop}
 use Rattle.event_lines.specs.Line.{lineOf}
@@ -44,6 +44,10 @@ pub record Block : Type 0 where
 
 unfoldable pub blockOf : Network → Run → List Line → Block
 blockOf g r lines = let kept = keptOf g r lines in record { kept = length kept; fault = faultOf (drop (length kept) lines); run = final g r kept }
+
+-- the same from what is wrong among the whole lines: an unfinished line at the end is misformed
+unfoldable pub withTail : ℕ → ℕ → ℕ
+withTail fault n = cond (eqb fault 0) (cond (eqb (n % 6) 0) 0 1) fault
 
 -- accepted with the number taken, or the fault with its line
 unfoldable pub bitsOf : ℕ → ℕ → ℕ

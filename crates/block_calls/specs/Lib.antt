@@ -1,3 +1,2 @@
 -- The definitions of crate `block_calls`.
 pub mod Block
-pub mod Codes

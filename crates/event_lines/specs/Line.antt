@@ -4,7 +4,8 @@
 -- Assumes nothing.
 use Prim.Native.Nat.{ℕ}
 use mathlib.Core.List.{List, [], _∷_, _++_}
-use mathlib.Core.Bool.{Bool, cond}
+use mathlib.Core.Bool.{Bool, _||_, cond}
+use lib.Dec.{eqb}
 use lib.ListN.{getD}
 use Rattle.decimal.specs.Decimal.{columns, sameBytes, numberAt}
 use Rattle.event_lines.specs.declared.Line.{Line}
@@ -16,6 +17,9 @@ Q = 81
 
 abbrev pub U : ℕ
 U = 85
+
+unfoldable pub isOrder : ℕ → Bool
+isOrder l = eqb l Q || eqb l U
 
 unfoldable pub lineText : ℕ → ℕ → List ℕ
 lineText letter x = letter ∷ (columns 4 x ++ (10 ∷ []))

@@ -5,7 +5,7 @@ ghost use mathlib.Core.Path.{_≡_};
 ghost use Prim.Native.Nat.{_≤_};
 ghost use lib.ListN.{length};
 ghost use lib.Seq.{sets};
-ghost use Rattle.event_lines.specs.Line.{lineText, lineOf};
+ghost use Rattle.event_lines.specs.Line.{isOrder, lineText, lineOf};
 
 // What six bytes hold: a letter, whatever it is, and a number; or they are no line of this form.
 pub enum Line {
@@ -27,6 +27,16 @@ pub fn read_line(line: &[u8]) -> Line
         return Line::Misformed;
     }
     Line::Given(line[0], x as u32)
+}
+
+// Whether a line with this letter is an order's.
+pub fn is_order(letter: u8) -> bool
+    ensures { λ r. ⌜ r ≡ isOrder letter ⌝ }
+{
+    if letter == b'Q' {
+        return true;
+    }
+    letter == b'U'
 }
 
 // Writes a line at the front, and gives its length.

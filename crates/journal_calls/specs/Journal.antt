@@ -7,7 +7,7 @@ use Prim.Native.Nat.{ℕ, zero, suc, _/_}
 use lib.Dec.{eqb, leb}
 use lib.ListN.{length, take, drop}
 use lib.Seq.{sets}
-use Rattle.event_lines.specs.Line.{Q, U, lineText, lineOf}
+use Rattle.event_lines.specs.Line.{Q, U, isOrder, lineText, lineOf}
 use Rattle.event_lines.specs.declared.Line.{Line}
 use Rattle.event_lines.specs.declared.Line.the-variants.{Given, Misformed}
 use Rattle.run.specs.Replies.{Y, N, G, K}
@@ -29,10 +29,6 @@ journalOf (q ∷ qs) [] = []
 journalOf (q ∷ qs) (x ∷ xs) = entryOf q x ++ journalOf qs xs
 
 -- ---- from lines to calls
-
--- the line is an order's
-unfoldable pub isOrder : ℕ → Bool
-isOrder l = eqb l Q || eqb l U
 
 -- the call that a line is of: next order, or a reply; what is no line is of none, and it does not matter which is named
 unfoldable pub callOn : Line → Asked

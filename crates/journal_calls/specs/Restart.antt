@@ -1,51 +1,34 @@
 -- Restart: the state that follows the whole lines of a journal, from the start. A tail shorter than six bytes is dropped.
 -- Assumes nothing.
-use mathlib.Core.Bool.{Bool, true, false, _&&_, cond}
+use mathlib.Core.Bool.{Bool, _&&_, cond}
 use mathlib.Core.List.{List}
 use Prim.Native.Nat.{ℕ, zero, suc, _+_, _/_}
 use lib.Dec.{eqb, leb}
 use lib.ListN.{length, take, drop}
-use Rattle.event_lines.specs.Line.{Q, U, lineOf}
+use Rattle.event_lines.specs.Line.{lineOf, isOrder}
 use Rattle.event_lines.specs.declared.Line.{Line}
 use Rattle.event_lines.specs.declared.Line.the-variants.{Given, Misformed}
 use Rattle.network.specs.declared.Network.{Network}
-use Rattle.run.specs.State.{start, standing}
+use Rattle.run.specs.State.{start}
 use Rattle.run.specs.Bytes.{bytesOf}
 use Rattle.run.specs.Orders.{next}
 use Rattle.run.specs.Replies.{misfits}
 use Rattle.run.specs.declared.Run.{Run}
-use Rattle.run.specs.declared.Ordered.{Ordered}
 use Rattle.run.specs.declared.Replied.{Replied}
-use Rattle.run.specs.declared.Order.{Order}
-use Rattle.run.specs.declared.Order.the-variants.{Request, Return, Wait, Flown, Off}
 use Rattle.guarantee.specs.Answers.{pack, unsound}
 use Rattle.guarantee.specs.Machine.{replyTo}
+use Rattle.lent_state.specs.Due.{orderTaken}
 use Rattle.calls.specs.Calls.{networkIn, sheetPasses, checkCall}
-use Rattle.journal_calls.specs.Journal.{isOrder}
-use Rattle.journal_calls.specs.declared.Stepped.{Stepped}
-use Rattle.journal_calls.specs.declared.Replayed.{Replayed}
-
--- a line `Q b` or `U b` is right where next order gives exactly that order
-unfoldable pub due : ℕ → ℕ → Order → Bool
-due l b (Request x) = eqb l Q && eqb b (suc x)
-due l b (Return x) = eqb l U && eqb b (suc x)
-due l b Wait = false
-due l b (Flown w) = false
-due l b Off = false
-
-unfoldable pub orderTaken : Ordered → ℕ → ℕ → Replied
-orderTaken t l b = record { taken = due l b (t .order); run = t .run }
 
 -- a line is taken where it is the order that was due, or a reply that fits; and the state after it. A misformed one is not.
 unfoldable pub lineTaken : Network → Run → Line → Replied
 lineTaken g r (Given l b) = cond (isOrder l) (orderTaken (next g r) l b) (replyTo g r l b)
 lineTaken g r Misformed = misfits r
 
--- the same with how the bookings stand then, so that they need not be looked at again; a line that is not taken leads nowhere
-unfoldable pub stepped : Network → Run → Line → Stepped
-stepped g r line =
-    let t = lineTaken g r line in
-    cond (t .taken) (record { taken = true; run = t .run; standing = standing g (t .run) }) (record { taken = false; run = r; standing = standing g r })
+-- a journal replayed: the number of its first wrong line, or 0, and the state after the lines before it
+pub record Replayed : Type 0 where
+  pub wrong : ℕ
+  pub run : Run
 
 -- so many lines, of which the first has number i: the number of the first wrong one, or 0, and the state after those before it
 unfoldable pub replayFrom : ℕ → ℕ → Network → Run → List ℕ → Replayed

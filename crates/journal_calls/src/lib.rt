@@ -1,52 +1,20 @@
 // What the calls of the journal do: a line written, and a campaign restarted from its journal. Crate campaign exports them.
-use event_lines::Line;
-use journal::Entry;
 use network::Network;
-use run::Order;
-use run::Ordered;
-use run::Replied;
 use run::Run;
-use standing::Standing;
 ghost use mathlib.Core.Path.{_≡_};
-ghost use Prim.Native.Nat.{suc, _^_, _≤_, _<_};
-ghost use lib.Dec.{eqb};
-ghost use lib.ListN.{length, getD};
-ghost use mathlib.Core.Bool.{_&&_};
-ghost use Rattle.standing.specs.Standing.{moved};
-ghost use Rattle.run.specs.State.{standing};
-ghost use Rattle.journal_calls.specs.Journal.{isOrder, isLetter, hasLine, journalLineCall, journalLineLeaves};
-ghost use Rattle.journal_calls.specs.Restart.{due, orderTaken, lineTaken, stepped, replay, linePlace, restartCall, restartLeaves};
-
-// A journal replayed: the number of its first wrong line, or 0, and the state after the lines before it.
-pub struct Replayed {
-    pub wrong: usize,
-    pub run: Run,
-}
-
-// A line taken, or not: the state after it, and how the bookings stand then.
-struct Stepped {
-    taken: bool,
-    run: Run,
-    standing: Standing,
-}
+ghost use Prim.Native.Nat.{_≤_};
+ghost use lib.ListN.{length};
+ghost use Rattle.run.specs.Bytes.{bytesOf};
+ghost use Rattle.journal_calls.specs.Journal.{isLetter, hasLine, journalLineCall, journalLineLeaves};
+ghost use Rattle.journal_calls.specs.Restart.{replay, linePlace, restartCall, restartLeaves};
 
 // ---- a line
-
-// Whether a line with this letter is an order's.
-fn is_order(letter: u8) -> bool
-    ensures { λ r. ⌜ r ≡ isOrder letter ⌝ }
-{
-    if letter == b'Q' {
-        return true;
-    }
-    letter == b'U'
-}
 
 // Whether a line of a journal may have this letter.
 fn is_letter(letter: u8) -> bool
     ensures { λ r. ⌜ r ≡ isLetter letter ⌝ }
 {
-    if is_order(letter) {
+    if event_lines::is_order(letter) {
         return true;
     }
     if letter == b'Y' {
@@ -91,110 +59,20 @@ pub fn journal_line(letter: u8, booking: u32, line: &mut [u8]) -> u32
 
 // ---- restart
 
-// Whether a letter and a booking's number are those of an order for index x.
-fn names(letter: u8, booking: u32, of: u8, x: usize) -> bool
-    ensures { λ r. ⌜ r ≡ (eqb letter of && eqb booking (suc x)) ⌝ }
+// Takes the journal's whole lines one after the other, from the start, in 65 lent bytes. Gives the number of the first wrong line, or 0.
+fn replay(g: Network, journal: &[u8], state: &mut [u8]) -> usize
+    requires { ⌜ (g .n ≤ 64) × (g .a ≤ 16) × (length (now state) ≡ 65) ⌝ }
+    ensures told { λ n. ⌜ n ≡ replay g (now (journal .entry)) .wrong ⌝ }
+    ensures left { λ _. ⌜ now (state .exit) ≡ bytesOf (replay g (now (journal .entry)) .run) ⌝ }
 {
-    if letter != of {
-        return false;
+    let run = Run::start();
+    let standing = run.standing(g.n);
+    run::store(run, state);
+    let t = lent_state::take_lines(g, standing, journal, true, state);
+    if t.fault == 0 {
+        return 0;
     }
-    if booking == 0 {
-        return false;
-    }
-    booking as usize - 1 == x
-}
-
-// Takes an order's line: it must be the order that next order gave.
-fn take_order(t: Ordered, letter: u8, booking: u32) -> Replied
-    ensures { λ r. ⌜ r ≡ orderTaken t letter booking ⌝ }
-{
-    let order = t.order;
-    let run = t.run;
-    let taken = match order {
-        Order::Request(x) => names(letter, booking, b'Q', x),
-        Order::Return(x) => names(letter, booking, b'U', x),
-        Order::Wait => false,
-        Order::Flown(_) => false,
-        Order::Off => false,
-    };
-    Replied { taken, run }
-}
-
-// Takes a line of this letter and booking: the order that is due, or a reply that fits.
-fn take_line(g: Network, r: Run, s: Standing, letter: u8, booking: u32) -> Replied
-    requires { ⌜ (g .n ≤ 64) × (g .a ≤ 16) × (r .way ≤ 16) × (s ≡ standing g r) ⌝ }
-    ensures { λ t. ⌜ t ≡ lineTaken g r (Line.Given letter booking) ⌝ }
-{
-    if is_order(letter) {
-        return take_order(r.next_order(g, s), letter, booking);
-    }
-    calls::reply_to(r, g, s, letter, booking)
-}
-
-// How the bookings stand in the state `after`, where s is how they stood and only that of index b has another code.
-fn stand_after(s: Standing, after: Run, b: usize) -> Standing
-    requires { ⌜ b < 64 ⌝ }
-    ensures { λ m. ⌜ m ≡ moved s (2 ^ b) (getD (after .code) b 0) ⌝ }
-{
-    let code = after.code;
-    s.moved(sets::bit(b), code[b])
-}
-
-// One line of the replay.
-fn step(g: Network, r: Run, s: Standing, line: Line) -> Stepped
-    requires { ⌜ (g .n ≤ 64) × (g .a ≤ 16) × (r .way ≤ 16) × (s ≡ standing g r) ⌝ }
-    ensures { λ t. ⌜ t ≡ stepped g r line ⌝ }
-{
-    let Line::Given(letter, booking) = line else {
-        return Stepped {
-            taken: false,
-            run: r,
-            standing: s,
-        };
-    };
-    let t = take_line(g, r, s, letter, booking);
-    if !t.taken {
-        return Stepped {
-            taken: false,
-            run: r,
-            standing: s,
-        };
-    }
-    let run = t.run;
-    let standing = stand_after(s, run, booking as usize - 1);
-    Stepped {
-        taken: true,
-        run,
-        standing,
-    }
-}
-
-// Takes the journal's whole lines one after the other, from the start.
-fn replay(g: Network, journal: &[u8]) -> Replayed
-    requires { ⌜ (g .n ≤ 64) × (g .a ≤ 16) ⌝ }
-    ensures { λ t. ⌜ t ≡ replay g (now (journal .entry)) ⌝ }
-{
-    let mut run = Run::start();
-    let mut standing = run.standing(g.n);
-    let mut at = 0;
-    let mut number = 1;
-    loop {
-        let turn = journal::next_line(journal, at);
-        let entry = turn.entry;
-        let Entry::Whole(line) = entry else {
-            return Replayed { wrong: 0, run };
-        };
-        let t = step(g, run, standing, line);
-        if !t.taken {
-            return Replayed { wrong: number, run };
-        }
-        let after = t.run;
-        run = after;
-        let stands = t.standing;
-        standing = stands;
-        at = turn.at;
-        number += 1;
-    }
+    t.kept + 1
 }
 
 // The place of refusal 12.
@@ -204,7 +82,7 @@ fn line_place(number: usize) -> usize
     if number <= 65535 { number } else { 65535 }
 }
 
-// Gives the state that follows the whole lines of a journal.
+// Gives the state that follows the whole lines of a journal. They are taken in bytes of its own, so that a wrong line leaves the lent ones.
 pub fn restart(sheet: &[u8], journal: &[u8], state: &mut [u8]) -> u32
     ensures answer { λ r. ⌜ r ≡ restartCall (now (sheet .entry)) (now (journal .entry)) (now (state .entry)) ⌝ }
     ensures left { λ _. ⌜ now (state .exit) ≡ restartLeaves (now (sheet .entry)) (now (journal .entry)) (now (state .entry)) ⌝ }
@@ -216,12 +94,11 @@ pub fn restart(sheet: &[u8], journal: &[u8], state: &mut [u8]) -> u32
     if state.len() != 65 {
         return calls::pack(0, 11, 0);
     }
-    let t = replay(c.network, journal);
-    let wrong = t.wrong;
+    let mut bytes = [0u8; 65];
+    let wrong = replay(c.network, journal, &mut bytes);
     if wrong != 0 {
         return calls::pack(0, 12, line_place(wrong));
     }
-    let run = t.run;
-    run::store(run, state);
+    run::store(run::load(&bytes), state);
     calls::pack(6, 0, 0)
 }

@@ -6,6 +6,7 @@ use lib.Dec.{eqb, ltb}
 use lib.Bits.{bitAnd, bitOr}
 use Rattle.bounded.specs.Bounded.{first}
 use Rattle.sets.specs.Sets.{member, without, some}
+use Rattle.network.specs.Network.{wayOf}
 use Rattle.network.specs.declared.Network.{Network}
 use Rattle.standing.specs.Standing.{requested, returning}
 use Rattle.standing.specs.Ways.{precedesSome, ready, lostIn}
@@ -42,3 +43,24 @@ next g r =
     (cond (some (s .returning)) (unchanged Wait r)
     (cond (ltb y (g .n)) (record { order = Request y; run = put r y requested })
     (cond (some (s .requested)) (unchanged Wait r) (unchanged (ending (r .way)) r)))))
+
+-- ---- the same by the sets alone
+
+-- the order of the rules, where the bookings stand so and way w is current
+unfoldable pub orderOf : Network → Standing → ℕ → Order
+orderOf g s w =
+    let x = first (toReturn g s (wayOf g w)) 64 in
+    let y = first (toRequest g s (wayOf g w)) (g .n) in
+    cond (lostIn s (wayOf g w)) Wait
+    (cond (ltb x 64) (Return x)
+    (cond (some (s .returning)) Wait
+    (cond (ltb y (g .n)) (Request y)
+    (cond (some (s .requested)) Wait (ending w)))))
+
+-- the state after an order: its booking, if it has one, gets a new code
+unfoldable pub ordered : Run → Order → Run
+ordered r (Request x) = put r x requested
+ordered r (Return x) = put r x returning
+ordered r Wait = r
+ordered r (Flown w) = r
+ordered r Off = r

@@ -4,7 +4,7 @@ use mathlib.Core.Bool.{Bool, true, false, not, _&&_, cond}
 use Prim.Native.Nat.{ℕ}
 use lib.Dec.{eqb, ltb}
 use Rattle.sets.specs.Sets.{some}
-use Rattle.network.specs.Network.{exposed}
+use Rattle.network.specs.Network.{wayOf, exposed}
 use Rattle.network.specs.declared.Network.{Network}
 use Rattle.standing.specs.Standing.{free, requested, held, lost, returning}
 use Rattle.standing.specs.Ways.{lostIn, firstLive}
@@ -33,6 +33,10 @@ toSwitch s way = not (some (s .requested)) && lostIn s way
 -- what follows a Y or an N: then the first live way becomes current, or 0 if there is none
 unfoldable pub settle : Network → Run → Run
 settle g r = cond (toSwitch (standing g r) (here g r)) (turn r (firstLive g (standing g r))) r
+
+-- the current way then, by the sets alone; w was current
+unfoldable pub wayAfter : Network → Standing → ℕ → ℕ
+wayAfter g s w = cond (toSwitch s (wayOf g w)) (firstLive g s) w
 
 -- the code of a refused booking: lost if exposed, else free, so that it is requested again
 unfoldable pub afterNo : Network → ℕ → ℕ

@@ -3,15 +3,13 @@
 use network::Network;
 use standing::Standing;
 ghost use mathlib.Core.Path.{_≡_};
-ghost use mathlib.Core.Bool.{_&&_};
 ghost use Prim.Native.Nat.{_≤_, _<_};
 ghost use lib.ListN.{length};
 ghost use Rattle.bounded.specs.Bounded.{first};
-ghost use Rattle.sets.specs.Sets.{member, subsetOf};
 ghost use Rattle.standing.specs.Standing.{standingOf};
 ghost use Rattle.run.specs.State.{put, start, standing};
-ghost use Rattle.run.specs.Orders.{toReturn, toRequest, unchanged, next};
-ghost use Rattle.run.specs.Replies.{settle, afterNo, fits, misfits, reply};
+ghost use Rattle.run.specs.Orders.{toReturn, toRequest, next, orderOf};
+ghost use Rattle.run.specs.Replies.{settle, wayAfter, afterNo, fits, misfits, reply};
 ghost use Rattle.run.specs.Bytes.{bytesOf, runOf};
 
 // The current way, 0 while calling off, and for each of 64 bookings its code.
@@ -56,29 +54,68 @@ fn to_return(g: Network, before: &[u64; 64], s: Standing, way: u64) -> usize
     ))
 }
 
-// Whether b is in the set `wanted` and all that precede it are in the set `held`.
-fn is_ready(wanted: u64, held: u64, before: u64, b: usize) -> bool
-    requires { ⌜ b < 64 ⌝ }
-    ensures { λ t. ⌜ t ≡ (member wanted b && subsetOf before held) ⌝ }
-{
-    if sets::has(wanted, b) {
-        return sets::subset(before, held);
-    }
-    false
-}
-
-// Rule 4: the lowest booking to request, or n.
+// Rule 4: the lowest booking to request, or n. Only the free bookings of the way are looked at, the lowest first.
 fn to_request(g: Network, before: &[u64; 64], s: Standing, way: u64) -> usize
     requires { ⌜ (now before ≡ g .before) × (g .n ≤ 64) ⌝ }
     ensures { λ y. ⌜ y ≡ first (toRequest g s way) (g .n) ⌝ }
 {
-    let wanted = s.free & way;
-    for b in 0..g.n {
-        if is_ready(wanted, s.held, before[b], b) {
+    let mut rest = s.free & way;
+    loop {
+        let b = sets::lowest(rest);
+        if b >= g.n {
+            return g.n;
+        }
+        if sets::subset(before[b], s.held) {
             return b;
         }
+        rest = sets::minus(rest, sets::bit(b));
     }
-    g.n
+}
+
+// The order of rules 1 to 6, where the bookings stand so and way w is current. It is worked out from the sets alone, so that a caller
+// need not hand over the whole state.
+pub fn due_order(g: Network, before: &[u64; 64], ways: &[u64; 16], s: Standing, w: u8) -> Order
+    requires { ⌜ (now before ≡ g .before) × (now ways ≡ g .way) × (g .n ≤ 64) × (w ≤ 16) ⌝ }
+    ensures { λ o. ⌜ o ≡ orderOf g s w ⌝ }
+{
+    let way = standing::way_of(g, ways, w as usize);
+    if s.lost_in(way) {
+        return Order::Wait;
+    }
+    let x = to_return(g, before, s, way);
+    if x < 64 {
+        return Order::Return(x);
+    }
+    if s.returning != 0 {
+        return Order::Wait;
+    }
+    let y = to_request(g, before, s, way);
+    if y < g.n {
+        return Order::Request(y);
+    }
+    if s.requested != 0 {
+        return Order::Wait;
+    }
+    if w == 0 {
+        return Order::Off;
+    }
+    Order::Flown(w)
+}
+
+// The current way after a Y or an N, by the sets alone; w was current. Where nothing is requested and that way has a lost booking, it is
+// the first live way, or 0 if there is none.
+pub fn way_after(g: Network, ways: &[u64; 16], s: Standing, w: u8) -> u8
+    requires { ⌜ (now ways ≡ g .way) × (g .a ≤ 16) × (w ≤ 16) ⌝ }
+    ensures { λ v. ⌜ v ≡ wayAfter g s w ⌝ }
+{
+    let deciding = s.requested;
+    if deciding != 0 {
+        return w;
+    }
+    if s.lost_in(standing::way_of(g, ways, w as usize)) {
+        return s.first_live(g, ways);
+    }
+    w
 }
 
 // The code of a refused booking: lost if exposed, else free, so that it is requested again.
@@ -126,13 +163,6 @@ impl Run {
         }
     }
 
-    // An order that changes nothing.
-    fn unchanged(self, order: Order) -> Ordered
-        ensures { λ t. ⌜ t ≡ unchanged order self ⌝ }
-    {
-        Ordered { order, run: self }
-    }
-
     // The next order, and the state after it; s is how the bookings stand.
     pub fn next_order(self, g: Network, s: Standing) -> Ordered
         requires { ⌜ (g .n ≤ 64) × (self .way ≤ 16) × (s ≡ standing g self) ⌝ }
@@ -140,56 +170,26 @@ impl Run {
     {
         let before = g.before;
         let ways = g.way;
-        let way = standing::way_of(g, &ways, self.way as usize);
-        if s.lost_in(way) {
-            return self.unchanged(Order::Wait);
-        }
-        let x = to_return(g, &before, s, way);
-        if x < 64 {
-            return Ordered {
-                order: Order::Return(x),
-                run: self.put(x, standing::RETURNING),
-            };
-        }
-        if s.returning != 0 {
-            return self.unchanged(Order::Wait);
-        }
-        let y = to_request(g, &before, s, way);
-        if y < g.n {
-            return Ordered {
-                order: Order::Request(y),
-                run: self.put(y, standing::REQUESTED),
-            };
-        }
-        if s.requested != 0 {
-            return self.unchanged(Order::Wait);
-        }
-        if self.way == 0 {
-            return self.unchanged(Order::Off);
-        }
-        self.unchanged(Order::Flown(self.way))
+        let order = due_order(g, &before, &ways, s, self.way);
+        let run = match order {
+            Order::Request(y) => self.put(y, standing::REQUESTED),
+            Order::Return(x) => self.put(x, standing::RETURNING),
+            Order::Wait => self,
+            Order::Flown(_) => self,
+            Order::Off => self,
+        };
+        Ordered { order, run }
     }
 
-    // What follows a Y or an N: where nothing is requested and the current way has a lost booking, the first live way becomes current,
-    // or 0 if there is none.
+    // What follows a Y or an N: the way may change.
     pub fn settle(self, g: Network, s: Standing) -> Run
         requires { ⌜ (g .a ≤ 16) × (self .way ≤ 16) × (s ≡ standing g self) ⌝ }
         ensures { λ r. ⌜ r ≡ settle g self ⌝ }
     {
-        let deciding = s.requested;
-        if deciding != 0 {
-            return self;
-        }
         let ways = g.way;
-        let current = standing::way_of(g, &ways, self.way as usize);
-        if s.lost_in(current) {
-            let code = self.code;
-            return Run {
-                way: s.first_live(g, &ways),
-                code,
-            };
-        }
-        self
+        let way = way_after(g, &ways, s, self.way);
+        let code = self.code;
+        Run { way, code }
     }
 
     // A Y or an N gives booking b the code c; then what follows. How the bookings stand is carried on, not looked up again.

@@ -23,10 +23,11 @@ use Rattle.guarantee.specs.Machine.{Asked, nextOrder, replied, replyTo, answer,
 use Rattle.guarantee.specs.Counted.{accepts}
 use Rattle.guarantee.proofs.Moved.{kind-pack, place-pack}
 use Rattle.guarantee.proofs.Numbers.{small-9, taken-small}
-use Rattle.journal_calls.specs.Journal.{entryOf, isOrder, callOn, isLetter, hasLine}
-use Rattle.journal_calls.specs.Restart.{due, orderTaken, lineTaken}
-use Rattle.journal_calls.proofs.Lines.{Silent, waits, is-off, is-flown, Sent, requests, gives-back, nothing, sent, silent-due}
-use Rattle.event_lines.specs.Line.{Q, U, lineText}
+use Rattle.journal_calls.specs.Journal.{entryOf, callOn, isLetter, hasLine}
+use Rattle.journal_calls.specs.Restart.{lineTaken}
+use Rattle.lent_state.specs.Due.{due, orderTaken}
+use Rattle.lent_state.proofs.Due.{Silent, waits, is-off, is-flown, Sent, requests, gives-back, nothing, sent, silent-due}
+use Rattle.event_lines.specs.Line.{Q, U, lineText, isOrder}
 use Rattle.event_lines.specs.declared.Line.the-variants.{Given}
 
 -- ---- lines by the kind of the answer

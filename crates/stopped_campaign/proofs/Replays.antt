@@ -14,8 +14,7 @@ use Rattle.network.specs.declared.Network.{Network}
 use Rattle.run.specs.declared.Run.{Run}
 use Rattle.guarantee.specs.Machine.{Asked, answer, after, machineAnswers, final}
 use Rattle.journal_calls.specs.Journal.{entryOf, journalOf, callOn, callsFrom}
-use Rattle.journal_calls.specs.Restart.{lineTaken, replayFrom}
-use Rattle.journal_calls.specs.declared.Replayed.{Replayed}
+use Rattle.journal_calls.specs.Restart.{lineTaken, Replayed, replayFrom}
 use Rattle.journal_calls.proofs.Lines.{line-few}
 use Rattle.event_lines.specs.Line.{lineText, lineOf}
 use Rattle.event_lines.specs.declared.Line.{Line}

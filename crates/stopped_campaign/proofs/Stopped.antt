@@ -24,8 +24,7 @@ use Rattle.guarantee.proofs.Whole.{travel}
 use Rattle.calls.specs.Calls.{networkIn, sheetPasses, checkCall, startLeaves}
 use Rattle.calls.proofs.FirstAnswer.{refused-low}
 use Rattle.journal_calls.specs.Journal.{entryOf, journalOf, callsFrom, callsOf}
-use Rattle.journal_calls.specs.Restart.{replay, linePlace, replayBits, restartCall, restarts, restartLeaves}
-use Rattle.journal_calls.specs.declared.Replayed.{Replayed}
+use Rattle.journal_calls.specs.Restart.{Replayed, replay, linePlace, replayBits, restartCall, restarts, restartLeaves}
 use Rattle.journal_calls.proofs.Exits.{place-small}
 use Rattle.block_calls.specs.Block.{linesOf}
 use Rattle.whole_campaign.specs.Calls.{Call, single, block, singles, gives, leaves, givesBy}

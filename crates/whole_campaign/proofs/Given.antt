@@ -26,7 +26,7 @@ use Rattle.guarantee.proofs.Moved.{kind-pack}
 use Rattle.guarantee.proofs.Numbers.{small-9}
 use Rattle.calls.specs.Calls.{networkIn, sheetPasses, inOrder, askedCall}
 use Rattle.block_calls.specs.Block.{linesFrom, linesOf, keptOf, blockOf}
-use Rattle.block_calls.proofs.Codes.{bytes-run, codes-size}
+use Rattle.lent_state.proofs.Bytes.{bytes-run, codes-size}
 use Rattle.whole_campaign.specs.Calls.{single, block, singles, gives, leaves, givesBy, leavesBy}
 use Rattle.whole_campaign.specs.Lists.{answersOn, leftOn}
 use Rattle.whole_campaign.specs.Singly.{keptBy, callsIn, answersIn}

@@ -3,8 +3,9 @@
 use mathlib.Core.Path.{sym, _∙_}
 use borrow.Author.Tests.{ne-eqb}
 use borrow.Author.Needs.{needs}
+use Rattle.event_lines.specs.Line.{isOrder}
 use Rattle.bounded.proofs.Bools.{or-l}
-use Rattle.journal_calls.specs.Journal.{isOrder, isLetter}
+use Rattle.journal_calls.specs.Journal.{isLetter}
 use Rattle.journal_calls.proofs.is_letter.Statement.{statement}
 use Rattle.journal_calls.proofs.is_letter.Tie as tie
 
