@@ -54,22 +54,21 @@ fn to_return(g: Network, before: &[u64; 64], s: Standing, way: u64) -> usize
     ))
 }
 
-// Rule 4: the lowest booking to request, or n. Only the free bookings of the way are looked at, the lowest first.
+// Rule 4: the lowest booking to request, or n. Only the free bookings of the way are looked at, the lowest first; the cut keeps to
+// bookings of the plan.
 fn to_request(g: Network, before: &[u64; 64], s: Standing, way: u64) -> usize
     requires { ⌜ (now before ≡ g .before) × (g .n ≤ 64) ⌝ }
     ensures { λ y. ⌜ y ≡ first (toRequest g s way) (g .n) ⌝ }
 {
-    let mut rest = s.free & way;
-    loop {
+    let mut rest = s.free & way & sets::all_below(g.n);
+    while rest != 0 {
         let b = sets::lowest(rest);
-        if b >= g.n {
-            return g.n;
-        }
         if sets::subset(before[b], s.held) {
             return b;
         }
-        rest = sets::minus(rest, sets::bit(b));
+        rest = sets::but_lowest(rest);
     }
+    g.n
 }
 
 // The order of rules 1 to 6, where the bookings stand so and way w is current. It is worked out from the sets alone, so that a caller
@@ -182,7 +181,7 @@ impl Run {
     }
 
     // What follows a Y or an N: the way may change.
-    pub fn settle(self, g: Network, s: Standing) -> Run
+    fn settle(self, g: Network, s: Standing) -> Run
         requires { ⌜ (g .a ≤ 16) × (self .way ≤ 16) × (s ≡ standing g self) ⌝ }
         ensures { λ r. ⌜ r ≡ settle g self ⌝ }
     {

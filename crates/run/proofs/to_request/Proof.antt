@@ -1,79 +1,67 @@
 -- `run::to_request` meets its contract.
 -- Assumes nothing.
-use mathlib.Core.Path.{_≡_, ap, _∙_}
-use mathlib.Core.List.{List}
-use Prim.Native.Nat.{ℕ, _-_, _^_}
+use mathlib.Core.Path.{_≡_, sym, _∙_}
+use Prim.Native.Nat.{_<_}
 use native.Mathlib.Omega.{arith}
-use lib.ListN.{getD}
 use borrow.Author.Needs.{needs}
-use Rattle.bounded.specs.Bounded.{first}
-use Rattle.sets.specs.Sets.{member, without, subsetOf}
-use Rattle.network.specs.Network.{before}
-use Rattle.run.proofs.Steps.{Rest, rest-all, request-over, request-found, rest-less, rest-higher}
+use lib.Bits.{bitAnd}
+use lib.ListN.{getD}
+use Rattle.sets.specs.Sets.{subsetOf}
+use Rattle.sets.proofs.Whole.{cut-fits}
+use Rattle.sets.proofs.Walk.{but-lowest-less, Walked, walk-none, walk-on, walk-at, walk-found, walk-over}
+use Rattle.run.specs.Orders.{toRequest}
+use Rattle.run.proofs.Steps.{looked-e, looked-i}
 use Rattle.run.proofs.to_request.Statement.{statement}
 use Rattle.run.proofs.to_request.Tie as tie
 
 abbrev Inv-loop : tie.InvT-loop
-Inv-loop g before s way rest₀ rest = Rest g s way rest
+Inv-loop g before s way rest₀ rest = Walked (toRequest g s way) rest₀ rest
 
 abbrev μ-loop : tie.MeasureT-loop
-μ-loop g before s way rest₀ rest = 64 - first (member rest) 64
+μ-loop g before s way rest₀ rest = rest
 
--- where the turn began, from where it looked for the lowest booking
-abbrev turn : tie.After-lowest Inv-loop μ-loop → tie.At-loop Inv-loop μ-loop
-turn w = w .before
-
-abbrev from : tie.After-lowest Inv-loop μ-loop → tie.Start Inv-loop μ-loop
-from w = turn w .before .before
-
--- and from where it looked at what precedes it
-abbrev looked : tie.After-subset Inv-loop μ-loop → tie.After-lowest Inv-loop μ-loop
-looked c = c .before .before .before .before
-
-tested : (c : tie.After-subset Inv-loop μ-loop) →
-    let a = from (looked c) .args in
-    c .subset .result ≡ subsetOf (before (a .g) (looked c .lowest .result)) (a .s .held)
-unfolding before
-tested c =
-    let w = looked c in
-    c .subset .ensures ∙ ap (λ (x : List ℕ). subsetOf (getD x (w .lowest .result) 0) (from w .args .s .held)) (from w .pre .0)
+-- the booking that is looked at
+looked : (c : tie.After-lowest Inv-loop μ-loop) → let a = c .before .before .before .before .before .args in let x = c .lowest .result in
+    (x < a .g .n) × (subsetOf (getD (a .before .now) x 0) (a .s .held) ≡ toRequest (a .g) (a .s) (a .way) x)
+looked c =
+    let l = c .before .before in
+    let a = l .before .before .before in
+    looked-e (a .args .g) (a .args .s) (a .args .way) _ (l .before .all-below .ensures) _ (a .pre .0) _ (walk-at _ _ _ _ (c .lowest .ensures) (c .before .loop-test .taken) (l .loop .inv))
 
 loop-holds : tie.Need-loop-holds Inv-loop μ-loop
-loop-holds c = let a = c .before .args in rest-all (a .g) (a .s) (a .way)
+loop-holds c =
+    let a = c .before .before in
+    walk-none _ _ (cut-fits (bitAnd (a .args .s .free) (a .args .way)) _ _ (c .all-below .ensures) (a .pre .1))
+
+mul-subset : tie.Need-mul-subset Inv-loop μ-loop
+mul-subset c = let h = looked c .0 in omega arith
+
+element-copy-out-subset : tie.Need-element-copy-out-subset Inv-loop μ-loop
+element-copy-out-subset c = let h = looked c .0 in omega arith
 
 returns : tie.Need-returns Inv-loop μ-loop
 returns c =
-    let w = c .before .before in
-    request-over _ (from w .pre .1) (from w .args .s) (from w .args .way) _ (turn w .loop .inv) _ (w .lowest .ensures) (omega arith)
-
-returns-2 : tie.Need-returns-2 Inv-loop μ-loop
-returns-2 c =
-    let u = c .before in
-    let w = looked u in
-    request-found _ (from w .pre .1) (from w .args .s) (from w .args .way) _ (turn w .loop .inv) _ (w .lowest .ensures) (omega arith) _ (tested u) (c .if2 .taken)
-
--- the lowest booking is left out
-left-out : (c : tie.After-minus Inv-loop μ-loop) →
-    let w = looked (c .before .before .before) in
-    c .minus .result ≡ without (turn w .loop .rest) (2 ^ w .lowest .result)
-left-out c =
-    let w = looked (c .before .before .before) in
-    c .minus .ensures ∙ ap (λ (x : ℕ). without (turn w .loop .rest) x) (c .before .bit .ensures)
+    let x = c .before .before .before in
+    let l = x .before .before in
+    let a = l .before .before .before .args in
+    walk-found _ _ _ (looked-i (a .g) (a .s) (a .way) _ (l .before .all-below .ensures)) _ _ (x .lowest .ensures) (looked x .0) (sym (c .before .subset .ensures ∙ looked x .1) ∙ c .if1 .taken) (l .loop .inv)
 
 loop-less : tie.Need-loop-less Inv-loop μ-loop
 loop-less c =
-    let u = c .before .before .before in
-    let w = looked u in
-    let h = rest-higher _ (from w .pre .1) (from w .args .s) (from w .args .way) _ (turn w .loop .inv) _ (w .lowest .ensures) (omega arith) _ (tested u)
-    (c .before .before .if2 .left) _ (left-out c) in
-    omega (arith, h, w .lowest .ensures)
+    let t = c .before .before .before .before .before in
+    let h = but-lowest-less (t .before .loop .rest) (t .before .loop .inv .fits) (t .loop-test .taken) in
+    omega (arith, c .but-lowest .ensures)
 
 loop-again : tie.Need-loop-again Inv-loop μ-loop
 loop-again c =
-    let u = c .before .before .before in
-    let w = looked u in
-    rest-less _ (from w .pre .1) (from w .args .s) (from w .args .way) _ (turn w .loop .inv) _ (w .lowest .ensures) (omega arith) _ (tested u)
-    (c .before .before .if2 .left) _ (left-out c)
+    let x = c .before .before .before .before in
+    walk-on _ _ _ _ _ (x .lowest .ensures) (c .but-lowest .ensures) (sym (c .before .before .subset .ensures ∙ looked x .1) ∙ c .before .if1 .left) (x .before .before .loop .inv)
+
+returns-2 : tie.Need-returns-2 Inv-loop μ-loop
+returns-2 c =
+    let l = c .before in
+    let a = l .before .before .before .args in
+    walk-over _ _ _ (looked-i (a .g) (a .s) (a .way) _ (l .before .all-below .ensures)) _ (c .loop-test .left) (l .loop .inv)
 
 pub to-request-spec : {M : Type 1} → statement M
 to-request-spec =
@@ -81,14 +69,14 @@ to-request-spec =
     (tie.spec
     Inv-loop
     μ-loop
+    (omega arith)
     loop-holds
+    (search needs)
+    mul-subset
+    element-copy-out-subset
     (search needs)
     returns
     (omega arith)
-    (omega arith)
-    (search needs)
-    returns-2
-    (omega arith)
-    (search needs)
     loop-less
-    loop-again)
+    loop-again
+    returns-2)
