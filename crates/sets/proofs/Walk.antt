@@ -7,15 +7,16 @@ use Prim.Native.Nat.{ℕ, zero, suc, _-_, _/_, _%_, _^_, _≤_, _<_}
 use native.Mathlib.Nat.{lt-of-le-of-lt, not-suc-le-zero, le-refl, le-of-suc-le-suc}
 use native.Mathlib.Omega.{arith}
 use borrow.Author.Tests.{eqb-true, eqb-false, eq-eqb, ne-eqb}
+use lib.Dec.{eqb}
 use lib.Bits.{bitAnd, and-le-l, and-le-r}
-use Rattle.bounded.specs.Bounded.{imp, all, first}
+use Rattle.bounded.specs.Bounded.{imp, any, all, first}
 use Rattle.bounded.proofs.Bools.{which, clash, off, same?, split?, same-test, imp-e, imp-i, and-l, and-r, _&_}
 use Rattle.bounded.proofs.Tests.{all-i, all-e}
 use Rattle.bounded.proofs.First.{first-least}
-use Rattle.bounded.proofs.Loops.{first-at, first-over}
+use Rattle.bounded.proofs.Loops.{any-over, first-at, first-over}
 use Rattle.sets.specs.Sets.{alone, member, gather, only, without, butLowest}
 use Rattle.sets.proofs.Members.{member-and, member-zero, member-power, member-past, member-suc, low-digit}
-use Rattle.sets.proofs.Gather.{gather-is, gather-lt}
+use Rattle.sets.proofs.Gather.{gather-is, gather-lt, member-gather}
 use Rattle.sets.proofs.Facts.{gather-e, gather-i, empty-n, nonzero-i, some-on, some-member, without-e, without-i}
 
 -- ---- the lowest member of a set that is not empty
@@ -122,6 +123,10 @@ but-lowest-i s i fits e =
       ]
     ]
 
+pub but-lowest-at : (s i : ℕ) → i < 64 → member (butLowest s) i ≡ member s i && not (eqb i (first (member s) 64))
+unfolding butLowest without only
+but-lowest-at s i l = let m = first (member s) 64 in member-gather (only s (alone m)) 64 i l ∙ ap (λ (b : Bool). member s i && not b) (member-power m i)
+
 -- ---- a test that every member passes
 
 unfoldable pub ifIn : ℕ → (ℕ → Bool) → ℕ → Bool
@@ -200,3 +205,6 @@ module _ (f : ℕ → Bool) (t : ℕ) where
 
     pub walk-over : (s : ℕ) → s ≡ 0 → Walked f t s → n ≡ first f n
     walk-over s z w = first-over f n n (λ k h. missed s k h (empty-n s k z) w) (le-refl n)
+
+    pub walk-past : (s : ℕ) → s ≡ 0 → Walked f t s → false ≡ any f n
+    walk-past s z w = any-over f n n (λ k h. missed s k h (empty-n s k z) w) (le-refl n)

@@ -2,17 +2,18 @@
 -- Assumes nothing.
 use mathlib.Core.Path.{_≡_, refl, sym, ap, _∙_}
 use mathlib.Core.Logic.{inl, inr}
-use mathlib.Core.Bool.{Bool, not, _&&_}
+use mathlib.Core.Bool.{Bool, true, not, _&&_}
 use Prim.Native.Nat.{ℕ, zero, suc, _-_, _^_, _≤_, _<_}
 use native.Mathlib.Nat.{lt-of-le-of-lt, pow-suc}
 use native.Mathlib.Omega.{arith}
 use lib.Pow.{pow-pos}
 use lib.Bits.{bitAnd, and-le-l, and-le-r}
-use Rattle.bounded.proofs.Bools.{split?, and-no-l}
+use Rattle.bounded.proofs.Bools.{split?, and-no-l, and-true}
 use Rattle.bounded.specs.Bounded.{all}
 use Rattle.sets.specs.Sets.{member, gather, only, without, always, allBelow}
 use Rattle.sets.proofs.Members.{member-and, same-set, fits-more}
 use Rattle.sets.proofs.Gather.{gather-lt, gather-is, member-gather, member-gather-past}
+use Rattle.sets.proofs.Facts.{gather-e, both-e}
 
 pub gather-fits : (f : ℕ → Bool) (n : ℕ) → n ≤ 64 → gather f n < 2 ^ 64
 gather-fits f n h = fits-more (gather f n) n 64 (gather-lt f n) h
@@ -44,6 +45,18 @@ below-is zero = refl
 below-is (suc n) = omega (arith, below-is n, pow-suc 2 n, pow-pos n)
 
 -- a set cut to them, with the set b that `all_below` gave
-pub cut-fits : (s b n : ℕ) → b ≡ allBelow n → n ≤ 64 → bitAnd s b < 2 ^ 64
-unfolding allBelow
-cut-fits s b n e h = lt-of-le-of-lt (and-le-r s b) (rw e (gather-fits always n h))
+module _ (s b n : ℕ) (e : b ≡ allBelow n) where
+  pub cut-lt : bitAnd s b < 2 ^ n
+  unfolding allBelow
+  cut-lt = lt-of-le-of-lt (and-le-r s b) (rw e (gather-lt always n))
+
+  pub cut-fits : n ≤ 64 → bitAnd s b < 2 ^ 64
+  cut-fits h = fits-more (bitAnd s b) n 64 cut-lt h
+
+  pub cut-at : (i : ℕ) → i < n → member (bitAnd s b) i ≡ member s i
+  unfolding allBelow always
+  cut-at i l = member-and s b i ∙ ap (λ (x : Bool). member s i && x) (rw e (member-gather always n i l)) ∙ and-true (member s i)
+
+  pub cut-e : (i : ℕ) → member (bitAnd s b) i ≡ true → (i < n) × (member s i ≡ true)
+  unfolding allBelow
+  cut-e i m = let t = both-e s b i m in (gather-e always n i (rw e at (t .1)) .0, t .0)

@@ -1,6 +1,6 @@
 -- What the code of the check answers at each of its exits.
 -- Assumes nothing.
-use mathlib.Core.Path.{_≡_, refl, sym, ap, _∙_}
+use mathlib.Core.Path.{_≡_, sym, ap, _∙_}
 use mathlib.Core.Logic.{_≢_}
 use mathlib.Core.Bool.{Bool, true, false, not, _&&_, cond}
 use mathlib.Core.List.{List}
@@ -17,8 +17,9 @@ use Rattle.bounded.proofs.Bools.{clash, and-l, and-r, and-no-l, and-no-r, and-g
 use Rattle.bounded.proofs.Tests.{any-i, any-o}
 use Rattle.bounded.proofs.First.{first-least}
 use Rattle.bounded.proofs.Loops.{So-far, first-at, first-over}
-use Rattle.sets.specs.Sets.{member, some, always, allBelow}
-use Rattle.sets.proofs.Facts.{gather-e, gather-i, both-e, both-i, empty-n, some-e, some-on, some-off}
+use Rattle.sets.specs.Sets.{member, some, allBelow}
+use Rattle.sets.proofs.Facts.{both-e, both-i, empty-n, some-e, some-on, some-off}
+use Rattle.sets.proofs.Whole.{cut-at, cut-e}
 use Rattle.network.specs.declared.Network.{Network}
 use Rattle.verdict.specs.declared.Verdict.{Verdict}
 use Rattle.verdict.specs.declared.Verdict.the-variants.{Pass, Unclosed, Unused, Repeated, Stranding}
@@ -44,19 +45,18 @@ module _ (g : Network) (k x s : ℕ) (q : s ≡ staying g (suc k) x) where
 -- only the exposed bookings of the way are tried, of those below n, which are b
 module _ (g : Network) (ws : List ℕ) (k b : ℕ) (same : ws ≡ g .way) (eb : b ≡ allBelow (g .n)) where
   pub tried-e : (x : ℕ) → member (bitAnd (bitAnd (g .exposed) (getD ws k 0)) b) x ≡ true → (x < g .n) × (exposed g x ≡ true) × (inWay g (suc k) x ≡ true)
-  unfolding exposed inWay wayOf allBelow
+  unfolding exposed inWay wayOf
   tried-e x e =
-      let t = both-e (bitAnd (g .exposed) (getD ws k 0)) b x e in
-      let u = both-e (g .exposed) (getD ws k 0) x (t .0) in
-      (gather-e always (g .n) x (rw eb at (t .1)) .0, u .0, rw same at (u .1))
+      let t = cut-e (bitAnd (g .exposed) (getD ws k 0)) b (g .n) eb x e in
+      let u = both-e (g .exposed) (getD ws k 0) x (t .1) in
+      (t .0, u .0, rw same at (u .1))
 
   pub tried-i : (x : ℕ) → x < g .n → stranding g (suc k) x ≡ true → member (bitAnd (bitAnd (g .exposed) (getD ws k 0)) b) x ≡ true
-  unfolding stranding exposed inWay wayOf allBelow always
+  unfolding stranding exposed inWay wayOf
   tried-i x h e =
       let t = and-l (exposed g x && inWay g (suc k) x) _ e in
-      both-i (bitAnd (g .exposed) (getD ws k 0)) b x
-      (both-i (g .exposed) (getD ws k 0) x (and-l (exposed g x) _ t) (rw same (and-r (exposed g x) _ t)))
-      (rw eb (gather-i always (g .n) x h refl))
+      cut-at (bitAnd (g .exposed) (getD ws k 0)) b (g .n) eb x h
+      ∙ both-i (g .exposed) (getD ws k 0) x (and-l (exposed g x) _ t) (rw same (and-r (exposed g x) _ t))
 
 -- ---- 8: all of them
 

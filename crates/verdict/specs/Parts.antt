@@ -7,7 +7,7 @@ use Prim.Native.Nat.{ℕ, _<_}
 use lib.Dec.{eqb}
 use lib.Bits.{bitOr}
 use lib.ListN.{length, getD}
-use Rattle.sets.specs.Sets.{alone, member, gather}
+use Rattle.sets.specs.Sets.{alone, member, gather, without}
 use Rattle.network.specs.Network.{before, pre, firm}
 use Rattle.network.specs.declared.Network.{Network}
 use Rattle.verdict.specs.declared.Point.{Point}
@@ -27,10 +27,14 @@ Upto g us = (s : ℕ) → s < g .n → getD us s 0 ≡ bitOr (before g s) (alone
 abbrev pub Stay : Network → List ℕ → Type 0
 Stay g ss = (x : ℕ) → x < g .n → getD ss x 0 ≡ stayAt g x
 
--- a turn of that work puts b into the set of each x below n that is not in up
-pub record PutUnless (old : List ℕ) (up b n : ℕ) (new : List ℕ) : Type 0 where
+-- the set of x, without b where x is in up
+abbrev pub takenAt : List ℕ → ℕ → ℕ → ℕ → ℕ
+takenAt ss up b x = cond (member up x) (without (getD ss x 0) b) (getD ss x 0)
+
+-- b is taken out of the set of each member of up
+pub record TakenFrom (old : List ℕ) (up b : ℕ) (new : List ℕ) : Type 0 where
   pub whole : length new ≡ 64
-  pub put : (x : ℕ) → x < n → getD new x 0 ≡ cond (member up x) (getD old x 0) (bitOr (getD old x 0) b)
+  pub taken : (x : ℕ) → x < 64 → getD new x 0 ≡ takenAt old up b x
 
 -- what is handed to the test of one booking in one way
 pub record PointOf (g : Network) (p : Point) : Type 0 where

@@ -1,15 +1,15 @@
 // The check of a network: refusals 4 to 8.
 use network::Network;
 ghost use mathlib.Core.Path.{_≡_};
-ghost use mathlib.Core.Bool.{true, not, _&&_, cond};
+ghost use mathlib.Core.Bool.{true, _&&_};
 ghost use Prim.Native.Nat.{suc, _≤_, _<_};
-ghost use lib.Bits.{bitAnd, bitOr};
+ghost use lib.Bits.{bitAnd};
 ghost use lib.ListN.{length, replicate};
 ghost use Rattle.bounded.specs.Bounded.{any, first};
-ghost use Rattle.sets.specs.Sets.{member, gather, subsetOf};
+ghost use Rattle.sets.specs.Sets.{gather, allBelow, subsetOf};
 ghost use Rattle.network.specs.Network.{inWay, exposed};
 ghost use Rattle.verdict.specs.Check.{circular, unclosed, unused, repeated, staying, settledBy, laterRefuge, stranding, firstStranding, check};
-ghost use Rattle.verdict.specs.Parts.{PutUnless, Upto, Stay, PointOf};
+ghost use Rattle.verdict.specs.Parts.{TakenFrom, Upto, Stay, PointOf};
 
 // What the check says: the first fault and where it is, bookings by index and ways by number.
 pub enum Verdict {
@@ -46,28 +46,31 @@ fn lowest_circular(g: Network, before: &[u64; 64]) -> usize
     g.n
 }
 
-// Whether v is in the way s, and not all of its predecessors are.
-fn has_gap(pred: u64, s: u64, v: usize) -> bool
-    requires { ⌜ v < 64 ⌝ }
-    ensures { λ r. ⌜ r ≡ (member s v && not (subsetOf pred s)) ⌝ }
+// Whether way k + 1 has a booking but not all that precede it. Those below n are looked at, as the set may have others.
+fn is_unclosed(g: Network, way: &[u64; 16], before: &[u64; 64], k: usize) -> bool
+    requires { ⌜ (now way ≡ g .way) × (now before ≡ g .before) × (g .n ≤ 64) × (g .a ≤ 16) × (k < g .a) ⌝ }
+    ensures { λ r. ⌜ r ≡ unclosed g k ⌝ }
 {
-    if sets::has(s, v) {
-        return !sets::subset(pred, s);
+    let here = way[k];
+    let mut rest = here & sets::all_below(g.n);
+    while rest != 0 {
+        let v = sets::lowest(rest);
+        if !sets::subset(before[v], here) {
+            return true;
+        }
+        rest = sets::but_lowest(rest);
     }
     false
 }
 
-// 5: the first way, by index, that has a booking but not all that precede it, or a.
+// 5: the first such way, by index, or a.
 fn first_unclosed(g: Network, way: &[u64; 16], before: &[u64; 64]) -> usize
     requires { ⌜ (now way ≡ g .way) × (now before ≡ g .before) × (g .n ≤ 64) × (g .a ≤ 16) ⌝ }
     ensures { λ r. ⌜ r ≡ first (unclosed g) (g .a) ⌝ }
 {
     for k in 0..g.a {
-        let here = way[k];
-        for v in 0..g.n {
-            if has_gap(before[v], here, v) {
-                return k;
-            }
+        if is_unclosed(g, way, before, k) {
+            return k;
         }
     }
     g.a
@@ -105,28 +108,24 @@ fn first_repeated(g: Network, way: &[u64; 16]) -> usize
     g.a
 }
 
-// The set s with the set b put in, unless x is in up.
-fn put_unless(s: u64, up: u64, b: u64, x: usize) -> u64
-    requires { ⌜ x < 64 ⌝ }
-    ensures { λ r. ⌜ r ≡ cond (member up x) s (bitOr s b) ⌝ }
+// Takes b out of the set of each member of up.
+fn take_from_members(stay: &mut [u64; 64], up: u64, b: u64)
+    requires { ⌜ length (now stay) ≡ 64 ⌝ }
+    ensures { λ _. ⌜ TakenFrom (now (stay .entry)) up b (now (stay .exit)) ⌝ }
 {
-    if sets::has(up, x) { s } else { s | b }
-}
-
-// Puts b into the set of each x below n that is not in up.
-fn put_all_unless(stay: &mut [u64; 64], up: u64, b: u64, n: usize)
-    requires { ⌜ (length (now stay) ≡ 64) × (n ≤ 64) ⌝ }
-    ensures { λ _. ⌜ PutUnless (now (stay .entry)) up b n (now (stay .exit)) ⌝ }
-{
-    for x in 0..n {
-        stay[x] = put_unless(stay[x], up, b, x);
+    let mut rest = up;
+    while rest != 0 {
+        let x = sets::lowest(rest);
+        stay[x] = sets::minus(stay[x], b);
+        rest = sets::but_lowest(rest);
     }
 }
 
-// For each booking: in upto itself and all that precede it; in stay, which comes empty, the firm bookings that may be held still when
-// it is lost. Both serve all ways.
+// For each booking: in upto itself and all that precede it; in stay, which comes with all firm bookings, those of them that may be held
+// still when it is lost. Both serve all ways. A firm booking is taken out where it may not stay, and not put in where it may, as of two
+// bookings at most one precedes the other.
 fn find_spans(g: Network, before: &[u64; 64], upto: &mut [u64; 64], stay: &mut [u64; 64])
-    requires { ⌜ (now before ≡ g .before) × (length (now upto) ≡ 64) × (now stay ≡ replicate 64 0) × (g .n ≤ 64) ⌝ }
+    requires { ⌜ (now before ≡ g .before) × (length (now upto) ≡ 64) × (now stay ≡ replicate 64 (bitAnd (g .firm) (allBelow (g .n)))) × (g .n ≤ 64) ⌝ }
     ensures { λ _. ⌜ Upto g (now (upto .exit)) × Stay g (now (stay .exit)) ⌝ }
 {
     for s in 0..g.n {
@@ -134,7 +133,7 @@ fn find_spans(g: Network, before: &[u64; 64], upto: &mut [u64; 64], stay: &mut [
         let up = before[s] | b;
         upto[s] = up;
         if sets::has(g.firm, s) {
-            put_all_unless(stay, up, b, g.n);
+            take_from_members(stay, up, b);
         }
     }
 }
@@ -233,7 +232,8 @@ fn first_stranding(g: Network, way: &[u64; 16], before: &[u64; 64]) -> Verdict
         return Verdict::Pass;
     }
     let mut upto = [0u64; 64];
-    let mut stay = [0u64; 64];
+    let firm = g.firm & sets::all_below(g.n);
+    let mut stay = [firm; 64];
     find_spans(g, before, &mut upto, &mut stay);
     for k in 0..g.a {
         let x = lowest_stranding(g, way, before, &upto, &stay, k);

@@ -8,19 +8,16 @@ use native.Mathlib.Omega.{arith}
 use borrow.Author.Count.{below-none}
 use borrow.Author.Needs.{needs}
 use lib.Bits.{bitOr}
-use lib.ListN.{length, getD, length-set, getD-replicate}
+use lib.ListN.{length, getD, length-set}
 use Rattle.bounded.proofs.Lists.{table-put}
-use Rattle.sets.specs.Sets.{gather}
-use Rattle.sets.proofs.Gather.{gather-zero}
 use Rattle.network.specs.Network as Net
-use Rattle.verdict.specs.Parts.{mayStay, stayAt}
-use Rattle.verdict.proofs.Parts.{stay-turn, stay-same}
+use Rattle.verdict.proofs.Parts.{Thinned, stay-none, stay-turn, stay-same, stay-done}
 use Rattle.verdict.proofs.find_spans.Statement.{statement}
 use Rattle.verdict.proofs.find_spans.Tie as tie
 
 abbrev Inv-loop : tie.InvT-loop
 Inv-loop g before upto₀ stay₀ s₀ s-end upto stay s = (s ≤ s-end) × (length upto ≡ 64) × (length stay ≡ 64)
-    × ((i : ℕ) → i < s → getD upto i 0 ≡ bitOr (Net.before g i) (2 ^ i)) × ((x : ℕ) → x < g .n → getD stay x 0 ≡ gather (mayStay g x) s)
+    × ((i : ℕ) → i < s → getD upto i 0 ≡ bitOr (Net.before g i) (2 ^ i)) × Thinned g s stay
 
 abbrev μ-loop : tie.MeasureT-loop
 μ-loop g before upto₀ stay₀ s₀ s-end upto stay s = s-end - s
@@ -28,7 +25,7 @@ abbrev μ-loop : tie.MeasureT-loop
 loop-holds : tie.Need-loop-holds Inv-loop μ-loop
 loop-holds c =
     let p = c .pre in
-    (omega arith, p .1, ap length (p .2), below-none _, λ x h. rw (p .2) (getD-replicate 64 x 0 0 (omega arith)) ∙ sym (gather-zero _))
+    (omega arith, p .1, ap length (p .2), below-none _, stay-none (c .args .g) _ (p .3) (p .2))
 
 loop-again : tie.Need-loop-again Inv-loop μ-loop
 unfolding Net.before
@@ -44,16 +41,15 @@ loop-again c =
       ⊎-elim (λ w. ap length (w .3) ∙ w .2 .ensures .whole) (λ w. ap length (w .1) ∙ l .loop .inv .2) (c .if1 .came),
       table-put _ (l .loop .upto) s _ (omega arith) up (l .loop .inv .3),
       λ x h. ⊎-elim
-          (λ w. ap (λ (t : List ℕ). getD t x 0) (w .3) ∙ stay-turn (a .g) _ _ _ _ _ up bit (w .2 .ensures) (sym (c .before .has .ensures) ∙ w .0 .taken) (l .loop .inv .4) x h)
+          (λ w. ap (λ (t : List ℕ). getD t x 0) (w .3) ∙ stay-turn (a .g) _ _ _ _ _ (l .before .pre .3) up bit (w .2 .ensures) (sym (c .before .has .ensures) ∙ w .0 .taken) (l .loop .inv .4) x h)
           (λ w. ap (λ (t : List ℕ). getD t x 0) (w .1) ∙ stay-same (a .g) (l .loop .stay) _ (sym (c .before .has .ensures) ∙ w .0 .left) (l .loop .inv .4) x h) (c .if1 .came),
     )
 
 returns : tie.Need-returns Inv-loop μ-loop
-unfolding stayAt
 returns c =
     let l = c .before in
     let e : l .loop .s ≡ l .before .args .g .n = omega arith in
-    (λ s h. l .loop .inv .3 s (omega arith), rw e at (l .loop .inv .4))
+    (λ s h. l .loop .inv .3 s (omega arith), stay-done (l .before .args .g) (l .loop .stay) (rw e at (l .loop .inv .4)))
 
 pub find-spans-spec : {M : Type 1} → statement M
 find-spans-spec =
