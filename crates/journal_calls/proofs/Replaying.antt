@@ -15,7 +15,6 @@ use Rattle.run.specs.State.{start}
 use Rattle.run.specs.Bytes.{bytesOf}
 use Rattle.run.specs.Replies.{misfits}
 use Rattle.run.specs.declared.Run.{Run}
-use Rattle.run.specs.declared.Replied.{Replied}
 use Rattle.event_lines.specs.Line.{isOrder, lineOf}
 use Rattle.event_lines.specs.declared.Line.{Line}
 use Rattle.event_lines.specs.declared.Line.the-variants.{Given, Misformed}

@@ -2,13 +2,11 @@
 -- Assumes nothing.
 use mathlib.Core.Path.{_≡_, refl, sym, ap, _∙_}
 use mathlib.Core.Bool.{true}
-use Prim.Native.Nat.{ℕ, _≤_}
 use native.Mathlib.Omega.{arith}
 use lib.ListN.{length}
 use borrow.Author.Needs.{needs}
 use Rattle.run.specs.State.{start}
 use Rattle.run.specs.Bytes.{bytesOf, runOf}
-use Rattle.run.specs.declared.Run.{Run}
 use Rattle.guarantee.proofs.Bytes.{same-run}
 use Rattle.lent_state.specs.Lines.{takenOf}
 use Rattle.lent_state.proofs.Bytes.{bytes-size}

@@ -1,11 +1,9 @@
 -- `sheet::read_sheet` meets its contract.
 -- Assumes nothing.
 use mathlib.Core.Path.{_≡_, refl, sym, ap, _∙_}
-use mathlib.Core.Bool.{true, false}
 use borrow.Author.Needs.{needs}
 use borrow.Author.Tests.{not-true, not-false}
 use Rattle.plan.specs.Judging.{isFine}
-use Rattle.plan.specs.declared.Judged.{Judged}
 use Rattle.lines.specs.Links.{noLinks}
 use Rattle.sheet.specs.Sheet.{refusedOf, sheetOf}
 use Rattle.sheet.specs.declared.Outlined.{Outlined}
