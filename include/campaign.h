@@ -35,12 +35,18 @@
  * Each line ends in a line feed (byte 10). Each number fills four columns,
  * right-justified with spaces, without leading zeros. In order:
  *
- *     P   n   m   a      1 to 64 bookings, 0 to 512 links, 1 to 16 ways
- *     B   b k            n lines, b = 1, 2, .. n; kind k is C, P, R or D
- *     L   u   v          m lines: u comes before v; rising by u, then by v
- *     A   k   b   b ..   a lines: a way, its k bookings, rising
+ *     P   n   m   a   t   1 to 64 bookings, 0 to 512 links, 1 to 16 ways, at
+ *                         most t matters open per desk, 1 to 64
+ *     B   b k   d         n lines, b = 1, 2, .. n; kind k is C, P, R or D; desk
+ *                         d is 1 to 8
+ *     L   u   v           m lines: u comes before v; rising by u, then by v
+ *     A   k   b   b ..    a lines: a way, its k bookings, rising
  *
  * Nothing else stands on a line and nothing follows the last one.
+ *
+ * A matter is a booking that is requested or returning: its desk has an order
+ * and has not answered. A desk with t matters is full and gets no order until
+ * it has answered one. With t = 64 no order is ever held back.
  *
  * Kinds of booking:
  *     C  returnable: may be refused; once held it can be given back.
@@ -51,13 +57,14 @@
  *                    it can be given back.
  *
  * Example, a flight with a tanker (1 range slot, 2 tanker, 3 chase aircraft,
- * or else 4 ground cameras):
+ * or else 4 ground cameras). The range slot and the cameras are booked at desk
+ * 1, the two aircraft at desk 2; a desk takes on two matters:
  *
- *     P   4   3   2
- *     B   1 C
- *     B   2 P
- *     B   3 C
- *     B   4 R
+ *     P   4   3   2   2
+ *     B   1 C   1
+ *     B   2 P   2
+ *     B   3 C   2
+ *     B   4 R   1
  *     L   1   2
  *     L   2   3
  *     L   2   4
@@ -80,7 +87,9 @@ extern "C" {
 #define CAMPAIGN_MOST_BOOKINGS 64
 #define CAMPAIGN_MOST_LINKS 512
 #define CAMPAIGN_MOST_WAYS 16
-#define CAMPAIGN_LONGEST_SHEET 9838
+#define CAMPAIGN_MOST_DESKS 8
+#define CAMPAIGN_MOST_MATTERS 64 /* open per desk: a sheet may say fewer */
+#define CAMPAIGN_LONGEST_SHEET 10098
 
 /* Bytes of a run state: the current way (0: calling off), then one code for
    each of 64 bookings. Booking b has byte b; bytes past the last booking are 0. */
@@ -134,9 +143,11 @@ enum campaign_refusal {
        Of a block, after 11: a line is not of its form or is not finished (the
        block's line). */
     CAMPAIGN_FORM = 1,
-    /* A count is outside its limits (the line). */
+    /* A count, or the most matters open per desk, is outside its limits (the
+       line). */
     CAMPAIGN_COUNT = 2,
-    /* A number is out of sequence, not rising, or not a booking (the line). */
+    /* A number is out of sequence, not rising, not a booking, or not a desk
+       (the line). */
     CAMPAIGN_NUMBER = 3,
     /* A booking comes before itself, by links in a circle (the lowest such
        booking). */
@@ -160,8 +171,9 @@ enum campaign_refusal {
     /* A buffer is too short for the text to be written (0). */
     CAMPAIGN_SHORT_BUFFER = 10,
     /* The state is not sound: it has not 65 bytes, or its bytes contradict the
-       sheet or each other, being damaged or of another sheet (0). A change that
-       leaves a sound state is not noticed. */
+       sheet or each other, being damaged or of another sheet; a desk with more
+       matters than the sheet allows is such a case (0). A change that leaves a
+       sound state is not noticed. */
     CAMPAIGN_UNSOUND = 11,
     /* A whole line of the journal is not of its form, is not the order that
        was due there, or is a reply that does not fit (the line; 65535 for any
@@ -249,6 +261,11 @@ uint32_t campaign_start(const uint8_t *sheet, size_t sheet_len,
  * Request or return: the order is marked in the state as given; send it, and
  * ask again, for more orders may follow before any reply. Wait, flown and
  * called off leave the state unchanged. Refused with 1 to 8 or 11.
+ *
+ * While a desk is full, requests and returns of its bookings are passed over:
+ * the next booking in turn whose desk is not full is taken, and if nothing else
+ * applies the answer is wait. So no desk ever has more orders without a reply
+ * than the sheet allows.
  *
  * With no reply outstanding the answer is never wait.
  */

@@ -1,6 +1,6 @@
 //! Chains of links, and the check on whole sets.
 
-use crate::plan::Plan;
+use crate::plan::{Plan, DESKS};
 use crate::refusal::Refusal;
 
 pub struct Network {
@@ -12,6 +12,8 @@ pub struct Network {
     pub after: [u64; 64],
     pub way: [u64; 16],
     pub ways: usize,
+    pub desks: [u64; DESKS],
+    pub limit: u32,
 }
 
 /// The members of a set, lowest first, as indices.
@@ -106,10 +108,10 @@ impl Network {
 
 /// The network of a plan that passes.
 pub fn check(plan: Plan) -> Result<Network, Refusal> {
-    let Plan { bookings, ways, exposed, firm, mut before, way } = plan;
+    let Plan { bookings, ways, exposed, firm, mut before, way, desks, limit } = plan;
     close(&mut before, bookings);
     let after = turned(&before, bookings);
-    let network = Network { bookings, exposed, firm, before, after, way, ways };
+    let network = Network { bookings, exposed, firm, before, after, way, ways, desks, limit };
     match network.fault() {
         Some(refusal) => Err(refusal),
         None => Ok(network),

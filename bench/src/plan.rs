@@ -5,6 +5,8 @@ use crate::refusal::Refusal;
 pub const MOST_BOOKINGS: u32 = 64;
 pub const MOST_LINKS: u32 = 512;
 pub const MOST_WAYS: u32 = 16;
+pub const DESKS: usize = 8;
+pub const HIGHEST_LIMIT: u32 = 64;
 
 pub struct Plan {
     pub bookings: usize,
@@ -15,6 +17,9 @@ pub struct Plan {
     /// Direct predecessors of each booking.
     pub before: [u64; 64],
     pub way: [u64; 16],
+    /// The bookings of each desk, and the most matters that one may have open.
+    pub desks: [u64; DESKS],
+    pub limit: u32,
 }
 
 const FORM: u32 = 1;
@@ -75,20 +80,37 @@ pub fn bit(booking: u32) -> u64 {
     1 << (booking - 1)
 }
 
-fn read_head(lines: &mut Lines) -> Result<(u32, u32, u32), Refusal> {
-    let head = lines.take(14)?;
-    lines.need(head[0] == b'P' && head[13] == b'\n', FORM)?;
-    let (n, m, a) = (lines.field(&head[1..5])?, lines.field(&head[5..9])?, lines.field(&head[9..13])?);
-    lines.need((1..=MOST_BOOKINGS).contains(&n) && m <= MOST_LINKS && (1..=MOST_WAYS).contains(&a), COUNT)?;
+struct Head {
+    n: u32,
+    m: u32,
+    a: u32,
+    limit: u32,
+}
+
+impl Head {
+    fn is_within_limits(&self) -> bool {
+        (1..=MOST_BOOKINGS).contains(&self.n)
+            && self.m <= MOST_LINKS
+            && (1..=MOST_WAYS).contains(&self.a)
+            && (1..=HIGHEST_LIMIT).contains(&self.limit)
+    }
+}
+
+fn read_head(lines: &mut Lines) -> Result<Head, Refusal> {
+    let text = lines.take(18)?;
+    lines.need(text[0] == b'P' && text[17] == b'\n', FORM)?;
+    let field = |at: usize| lines.field(&text[at..at + 4]);
+    let head = Head { n: field(1)?, m: field(5)?, a: field(9)?, limit: field(13)? };
+    lines.need(head.is_within_limits(), COUNT)?;
     lines.line += 1;
-    Ok((n, m, a))
+    Ok(head)
 }
 
 fn read_bookings(lines: &mut Lines, n: u32, plan: &mut Plan) -> Result<(), Refusal> {
     for booking in 1..=n {
-        let text = lines.take(8)?;
-        lines.need(text[0] == b'B' && text[5] == b' ' && text[7] == b'\n', FORM)?;
-        let given = lines.field(&text[1..5])?;
+        let text = lines.take(12)?;
+        lines.need(text[0] == b'B' && text[5] == b' ' && text[11] == b'\n', FORM)?;
+        let (given, desk) = (lines.field(&text[1..5])?, lines.field(&text[7..11])?);
         let (exposed, firm) = match text[6] {
             b'C' => (true, false),
             b'P' => (true, true),
@@ -96,7 +118,8 @@ fn read_bookings(lines: &mut Lines, n: u32, plan: &mut Plan) -> Result<(), Refus
             b'D' => (false, false),
             _ => return Err(lines.refusal(FORM)),
         };
-        lines.need(given == booking, NUMBER)?;
+        lines.need(given == booking && (1..=DESKS as u32).contains(&desk), NUMBER)?;
+        plan.desks[desk as usize - 1] |= bit(booking);
         plan.exposed |= u64::from(exposed) << (booking - 1);
         plan.firm |= u64::from(firm) << (booking - 1);
         lines.line += 1;
@@ -143,9 +166,17 @@ fn read_way(lines: &mut Lines, n: u32) -> Result<u64, Refusal> {
 
 pub fn read(sheet: &[u8]) -> Result<Plan, Refusal> {
     let mut lines = Lines { rest: sheet, line: 1 };
-    let (n, m, a) = read_head(&mut lines)?;
-    let mut plan =
-        Plan { bookings: n as usize, ways: a as usize, exposed: 0, firm: 0, before: [0; 64], way: [0; 16] };
+    let Head { n, m, a, limit } = read_head(&mut lines)?;
+    let mut plan = Plan {
+        bookings: n as usize,
+        ways: a as usize,
+        exposed: 0,
+        firm: 0,
+        before: [0; 64],
+        way: [0; 16],
+        desks: [0; DESKS],
+        limit,
+    };
     read_bookings(&mut lines, n, &mut plan)?;
     read_links(&mut lines, n, m, &mut plan)?;
     for way in 0..plan.ways {

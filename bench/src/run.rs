@@ -69,6 +69,21 @@ impl Run {
         }
     }
 
+    /// What the desks have open.
+    fn matters(&self) -> u64 {
+        self.requested | self.returning
+    }
+
+    /// The bookings of all desks with so many matters. Mostly fewer are open at all.
+    fn at_desks_with(&self, network: &Network, count: u32) -> u64 {
+        let matters = self.matters();
+        if matters.count_ones() < count {
+            return 0;
+        }
+        let full = network.desks.iter().filter(|&desk| (matters & desk).count_ones() >= count);
+        full.fold(0, |all, desk| all | desk)
+    }
+
     fn is_live(&self, network: &Network, way: u64) -> bool {
         way & self.lost == 0 && self.held & network.firm & !way == 0
     }
@@ -91,6 +106,7 @@ impl Run {
             && self.held & network.firm & !way == 0
             && (lost_here == 0 || self.requested != 0)
             && self.stands(network, lost_here)
+            && self.at_desks_with(network, network.limit + 1) == 0
     }
 
     pub fn next_order(&self, network: &Network) -> Order {
@@ -99,14 +115,15 @@ impl Run {
             return Order::Wait;
         }
         let standing = self.held | self.returning;
-        if let Some(b) = members(self.held & !way).find(|&b| network.after[b] & standing == 0) {
+        let full = self.at_desks_with(network, network.limit);
+        if let Some(b) = members(self.held & !way & !full).find(|&b| network.after[b] & standing == 0) {
             return Order::Return(b);
         }
         if self.returning != 0 {
             return Order::Wait;
         }
         let free = way & !(self.requested | self.held | self.lost);
-        if let Some(b) = members(free).find(|&b| network.before[b] & !self.held == 0) {
+        if let Some(b) = members(free & !full).find(|&b| network.before[b] & !self.held == 0) {
             return Order::Request(b);
         }
         if self.requested != 0 {

@@ -14,10 +14,22 @@ pub struct Endless {
     pub refused: Vec<usize>,
 }
 
+/// All bookings at one desk, which is never full.
 fn write_sheet(kinds: &str, links: &[(usize, usize)], ways: &[Vec<usize>]) -> Vec<u8> {
-    let mut text = format!("P{:4}{:4}{:4}\n", kinds.len(), links.len(), ways.len());
+    write_with_desks(kinds, links, ways, 1, 64)
+}
+
+/// The bookings go to the desks in turn.
+fn write_with_desks(
+    kinds: &str,
+    links: &[(usize, usize)],
+    ways: &[Vec<usize>],
+    desks: usize,
+    limit: usize,
+) -> Vec<u8> {
+    let mut text = format!("P{:4}{:4}{:4}{limit:4}\n", kinds.len(), links.len(), ways.len());
     for (i, kind) in kinds.chars().enumerate() {
-        writeln!(text, "B{:4} {kind}", i + 1).unwrap();
+        writeln!(text, "B{:4} {kind}{:4}", i + 1, i % desks + 1).unwrap();
     }
     for (u, v) in links {
         writeln!(text, "L{u:4}{v:4}").unwrap();
@@ -66,18 +78,29 @@ fn example(folder: &str, name: &str, title: &str) -> Sheet {
     Sheet { name: title.to_string(), bytes }
 }
 
-/// Smallest, Tanker, full size; and a full-size row, which is hard on the check.
+/// 64 bookings without links in two ways, half of which may be lost, eight at each of eight desks
+/// that take on two matters each.
+fn desks() -> Sheet {
+    let kinds = "C".repeat(32) + &"D".repeat(32);
+    let bytes = write_with_desks(&kinds, &[], &[(1..=64).collect(), (33..=64).collect()], 8, 2);
+    Sheet { name: "8 desks, limit 2 (64, 0, 2)".to_string(), bytes }
+}
+
+/// Smallest, Tanker, full size; a full-size row, which is hard on the check; and desks that are
+/// often full.
 pub fn main_sheets(examples: &str) -> Vec<Sheet> {
     vec![
         Sheet { name: "smallest (1, 0, 1)".to_string(), bytes: write_sheet("C", &[], &[vec![1]]) },
         example(examples, "tanker", "Tanker (4, 3, 2)"),
         example(examples, "full-size", "full size (64, 512, 16)"),
         Sheet { name: "full-size row (64, 512, 16)".to_string(), bytes: row(64, 512, 16) },
+        desks(),
     ]
 }
 
-/// The smallest, of kind R; the Tanker without its chase aircraft; and full size with all
-/// that can be held but for a repeatable, and what stands on it.
+/// The smallest, of kind R; the Tanker without its chase aircraft; full size with all that can be
+/// held but for a repeatable, and what stands on it; and two desks with three bookings each that
+/// are never confirmed, so that one of the desks is full at every order.
 pub fn endless(examples: &str) -> Vec<Endless> {
     let smallest =
         Sheet { name: "smallest, R (1, 0, 1)".to_string(), bytes: write_sheet("R", &[], &[vec![1]]) };
@@ -85,6 +108,7 @@ pub fn endless(examples: &str) -> Vec<Endless> {
         Endless { sheet: smallest, refused: vec![1] },
         Endless { sheet: example(examples, "tanker", "Tanker (4, 3, 2)"), refused: vec![3, 4] },
         Endless { sheet: example(examples, "full-size", "full size (64, 512, 16)"), refused: vec![62] },
+        Endless { sheet: desks(), refused: vec![47, 48, 55, 56, 63, 64] },
     ]
 }
 
@@ -100,21 +124,27 @@ fn wide() -> Vec<u8> {
 }
 
 /// Small ones; 64 bookings without links, which may all be requested at once, in one way and in
-/// 16; and full size, with few and with many requests at once.
+/// 16, or two at each desk; and full size, with few and with many requests at once.
 pub fn for_blocks(examples: &str) -> Vec<Sheet> {
     vec![
         example(examples, "tanker", "Tanker (4, 3, 2)"),
         example(examples, "chase", "chase (4, 1, 2)"),
         Sheet { name: "unlinked (64, 0, 1)".to_string(), bytes: row(64, 0, 1) },
         Sheet { name: "unlinked (64, 0, 16)".to_string(), bytes: row(64, 0, 16) },
+        desks(),
         example(examples, "full-size", "full size (64, 512, 16)"),
         Sheet { name: "full size, wide (64, 512, 16)".to_string(), bytes: wide() },
     ]
 }
 
-/// A sheet with the kind that none of the main ones has, D.
+/// Small sheets: one with the kind that few of the main ones have, D, and one with two desks
+/// that take on a single matter.
 pub fn compared_only(examples: &str) -> Vec<Sheet> {
-    vec![example(examples, "chase", "chase (4, 1, 2)")]
+    let bytes = write_with_desks("CDCDCD", &[(1, 4)], &[(1..=6).collect(), vec![2, 6]], 2, 1);
+    vec![
+        example(examples, "chase", "chase (4, 1, 2)"),
+        Sheet { name: "2 desks, limit 1 (6, 1, 2)".to_string(), bytes },
+    ]
 }
 
 /// The longest text: every way has every booking, so it reads but is refused with 7.

@@ -8,7 +8,7 @@
 #include "books.h"
 #include "desks.h"
 
-/* Each desk's answer, and with it a confused reply and a copy. */
+/* The answer for each booking, and with it a confused reply and a copy. */
 enum { MOST_ARRIVED = 3 * CAMPAIGN_MOST_BOOKINGS };
 
 struct arrived {

@@ -54,6 +54,30 @@ static const char *count_step(struct books *books)
     return NULL;
 }
 
+/* Matters. */
+
+static void open_matter(struct books *books, unsigned booking)
+{
+    unsigned desk = books->plan->desk[booking];
+    unsigned open = ++books->matters[desk];
+    if (open > books->most_matters[desk])
+        books->most_matters[desk] = open;
+}
+
+static void close_matter(struct books *books, unsigned booking)
+{
+    books->matters[books->plan->desk[booking]]--;
+}
+
+unsigned books_most_matters(const struct books *books)
+{
+    unsigned most = 0;
+    for (unsigned desk = 1; desk <= CAMPAIGN_MOST_DESKS; desk++)
+        if (books->most_matters[desk] > most)
+            most = books->most_matters[desk];
+    return most;
+}
+
 /* Orders. */
 
 const char *books_order(struct books *books, struct entry entry)
@@ -67,6 +91,7 @@ const char *books_order(struct books *books, struct entry entry)
         return "a return of a booking that can't be given back";
     books->code[entry.booking] = request ? CAMPAIGN_REQUESTED : CAMPAIGN_RETURNING;
     books->orders[entry.booking]++;
+    open_matter(books, entry.booking);
     return count_step(books);
 }
 
@@ -131,6 +156,7 @@ const char *books_reply(struct books *books, struct entry entry)
 {
     enter(books, entry);
     books->replies[entry.booking]++;
+    close_matter(books, entry.booking);
     choose_way(books);
     return count_step(books);
 }
@@ -144,5 +170,9 @@ void books_write(const struct books *books, FILE *out)
         fprintf(out, "books: booking %2u: ordered %lu times, confirmed %lu, returned %lu, now %s\n", booking,
                 books->orders[booking], books->confirmed[booking], books->returned[booking],
                 words[books->code[booking]]);
+    for (unsigned desk = 1; desk <= CAMPAIGN_MOST_DESKS; desk++)
+        if (books->most_matters[desk] > 0)
+            fprintf(out, "books: desk %u: most matters open at once %u, limit %u\n", desk, books->most_matters[desk],
+                    books->plan->limit);
     fprintf(out, "books: way %u; %lu orders and replies, %lu delays\n", books->code[0], books->steps, books->delays);
 }

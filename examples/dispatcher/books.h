@@ -12,6 +12,8 @@ struct books {
     unsigned long replies[CAMPAIGN_MOST_BOOKINGS + 1]; /* to so many of these orders */
     unsigned long confirmed[CAMPAIGN_MOST_BOOKINGS + 1];
     unsigned long returned[CAMPAIGN_MOST_BOOKINGS + 1];
+    unsigned matters[CAMPAIGN_MOST_DESKS + 1];      /* by desk: orders without a reply */
+    unsigned most_matters[CAMPAIGN_MOST_DESKS + 1]; /* at one time */
     unsigned long steps;  /* orders and replies */
     unsigned long delays; /* refusals of what repeats, returns that failed */
 };
@@ -35,6 +37,9 @@ uint64_t books_held_firm(const struct books *books);
 
 /* Confirmed and not returned, counted from the replies. */
 uint64_t books_in_hand(const struct books *books);
+
+/* The most matters that any desk had open at one time. */
+unsigned books_most_matters(const struct books *books);
 
 /* Lines that begin with 'books: ', the same for the same orders and replies. */
 void books_write(const struct books *books, FILE *out);

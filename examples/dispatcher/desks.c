@@ -1,15 +1,15 @@
 #include "desks.h"
 
-/* At least at every fifth order a desk that promises to give in does so: it confirms what repeats (R or D), takes back
-   what it may (C or D). */
+/* At least at every fifth order for a booking a desk that promises to give in does so: it confirms what repeats (R or D),
+   takes back what it may (C or D). */
 enum { MOST_DELAYS = 4 };
 
-/* Chance for one matter alone, so that nothing depends on what was drawn for others. */
+/* Chance for one question alone, so that nothing depends on what was drawn for others. */
 struct dice {
     uint64_t chance;
 };
 
-enum matter { DAY, HURRY, TURN, ANSWER, CONFUSION, MUMBLE, REPEAT, REPEAT_WHEN_BACK, CROWD, JOIN };
+enum question { DAY, HURRY, TURN, ANSWER, CONFUSION, MUMBLE, REPEAT, REPEAT_WHEN_BACK, CROWD, JOIN };
 
 /* splitmix64 */
 static uint64_t draw(struct dice *dice)
@@ -25,10 +25,10 @@ static struct dice stir(struct dice dice, uint64_t number)
     return (struct dice) {draw(&dice) ^ number};
 }
 
-static struct dice dice_for(const struct desks *desks, enum matter matter, uint64_t first, uint64_t second)
+static struct dice dice_for(const struct desks *desks, enum question question, uint64_t first, uint64_t second)
 {
     struct dice dice = {desks->seed};
-    return stir(stir(stir(dice, (uint64_t) matter), first), second);
+    return stir(stir(stir(dice, (uint64_t) question), first), second);
 }
 
 static unsigned below(struct dice *dice, unsigned long bound)
@@ -55,6 +55,14 @@ void desks_send(struct desks *desks, struct order order)
     desks->order[order.what.booking] = order;
 }
 
+unsigned desks_matters(const struct desks *desks, const struct plan *plan, unsigned desk)
+{
+    unsigned count = 0;
+    for (unsigned booking = 1; booking <= plan->bookings; booking++)
+        count += plan->desk[booking] == desk && desks->order[booking].number != 0;
+    return count;
+}
+
 static unsigned with_order(const struct desks *desks, unsigned due[CAMPAIGN_MOST_BOOKINGS])
 {
     unsigned count = 0;
@@ -73,7 +81,7 @@ bool desks_hurry(const struct desks *desks, size_t lines)
 
 bool desks_join(const struct desks *desks, size_t lines)
 {
-    /* From days on which the desks answer one by one to days on which all answer at once. */
+    /* From days on which the replies come one by one to days on which all come at once. */
     static const unsigned days[] = {0, 30, 60, 90, 100};
     unsigned due[CAMPAIGN_MOST_BOOKINGS];
     struct dice day = dice_for(desks, CROWD, 0, 0);

@@ -52,6 +52,15 @@ static bool blame(struct run *run, const char *what, uint32_t answer)
     return false;
 }
 
+/* The library asks more of a desk than it takes on; always false too. */
+static bool blame_for_desk(struct run *run, unsigned desk, unsigned matters, uint32_t answer)
+{
+    char what[96];
+    snprintf(what, sizeof what, "desk %u is given %u open matters, and the limit is %u", desk, matters,
+             run->plan->limit);
+    return blame(run, what, answer);
+}
+
 /* The calls on this run. */
 
 static uint32_t ask_start(struct run *run)
@@ -131,26 +140,45 @@ static void count(struct run *run, struct entry entry)
     }
 }
 
+/* By our books no desk has more matters open than it takes on. */
+static bool desk_takes_it(struct run *run, unsigned booking, uint32_t answer)
+{
+    unsigned desk = run->plan->desk[booking];
+    unsigned matters = run->books.matters[desk];
+    return matters <= run->plan->limit || blame_for_desk(run, desk, matters, answer);
+}
+
 static bool enter_order(struct run *run, struct entry order, uint32_t answer)
 {
     const char *fault = books_order(&run->books, order);
     if (fault != NULL)
         return blame(run, fault, answer);
+    if (!desk_takes_it(run, order.booking, answer))
+        return false;
     count(run, order);
     return books_agree(run) || blame(run, "state and books differ after an order", answer);
 }
 
-/* An order that is sent again has the number that it had. */
-static void send_order(struct run *run, struct entry order, const char *again)
+static void say_order(const struct run *run, struct entry order, unsigned long number, const char *again)
 {
     unsigned booking = order.booking;
-    unsigned long number = run->books.orders[booking];
-    desks_send(&run->desks, (struct order) {order, number});
+    unsigned desk = run->plan->desk[booking];
     if (order.letter == CAMPAIGN_REQUEST_LETTER)
-        say(run, "  to desk %2u: %swe ask for booking %u (%s), order %lu\n", booking, again, booking,
+        say(run, "  to desk %u: %swe ask for booking %u (%s), order %lu\n", desk, again, booking,
             words_for_kind(run->plan->kind[booking]), number);
     else
-        say(run, "  to desk %2u: %splease take booking %u back, order %lu\n", booking, again, booking, number);
+        say(run, "  to desk %u: %splease take booking %u back, order %lu\n", desk, again, booking, number);
+}
+
+/* An order that is sent again has the number that it had, and is the same matter to its desk. */
+static bool send_order(struct run *run, struct entry order, const char *again)
+{
+    unsigned desk = run->plan->desk[order.booking];
+    unsigned long number = run->books.orders[order.booking];
+    desks_send(&run->desks, (struct order) {order, number});
+    say_order(run, order, number, again);
+    unsigned matters = desks_matters(&run->desks, run->plan, desk);
+    return matters <= run->plan->limit || blame_for_desk(run, desk, matters, 0);
 }
 
 static bool give_order(struct run *run, uint8_t letter, uint32_t answer)
@@ -158,8 +186,7 @@ static bool give_order(struct run *run, uint8_t letter, uint32_t answer)
     struct entry order = {letter, campaign_place_of(answer)};
     if (!enter_order(run, order, answer) || !keep(run, order))
         return false;
-    send_order(run, order, "");
-    return true;
+    return send_order(run, order, "");
 }
 
 /* Why the way changed. */
@@ -247,8 +274,8 @@ static bool enter_reply(struct run *run, struct entry reply)
 
 static void say_reply(const struct run *run, struct reply reply, unsigned before)
 {
-    say(run, "  desk %2u says: %s (order %lu)\n", (unsigned) reply.what.booking, words_for_reply(run, reply.what),
-        reply.order);
+    say(run, "  desk %u says: %s (booking %" PRIu32 ", order %lu)\n", run->plan->desk[reply.what.booking],
+        words_for_reply(run, reply.what), reply.what.booking, reply.order);
     if (run->books.code[0] != before)
         say_change(run, before, run->books.code[0]);
     say_patience(run, before);
@@ -265,10 +292,11 @@ static bool take_reply(struct run *run, struct reply reply)
 
 static void discard(struct run *run, struct reply reply)
 {
+    uint32_t booking = reply.what.booking;
     run->tally->discarded++;
-    say(run, "  desk %2u says again: %s (order %lu): discarded, the %s has that reply\n", (unsigned) reply.what.booking,
-        words_for_reply(run, reply.what), reply.order,
-        reply.order > run->books.replies[reply.what.booking] ? "block" : "journal");
+    say(run, "  desk %u says again: %s (booking %" PRIu32 ", order %lu): discarded, the %s has that reply\n",
+        run->plan->desk[booking], words_for_reply(run, reply.what), booking, reply.order,
+        reply.order > run->books.replies[booking] ? "block" : "journal");
 }
 
 /* A reply that quotes its order. Handed in, an old one would answer whatever order is open now. */
@@ -310,7 +338,7 @@ static bool hand_in_misfit(struct run *run, struct entry reply, const char *why)
     return true;
 }
 
-/* The order of this number to this booking's desk, from the journal. */
+/* The order of this number for this booking, from the journal. */
 static struct order old_order(const struct run *run, uint32_t booking, unsigned long number)
 {
     struct entry entry = {0, 0};
@@ -475,7 +503,7 @@ static bool gather_a_desk(struct run *run, struct block *block, size_t lines)
     return true;
 }
 
-/* All that has arrived. It is the same after a stop within its lines: each desk has its turn by the number of lines. */
+/* All that has arrived. It is the same after a stop within its lines: each reply has its turn by the number of lines. */
 static bool hear_all_desks(struct run *run)
 {
     struct block block;
@@ -557,6 +585,8 @@ static bool ended(struct run *run, uint32_t answer)
         return false;
     if (!(campaign_kind_of(answer) == CAMPAIGN_FLOWN ? flown(run, answer) : called_off(run, answer)))
         return false;
+    unsigned most = books_most_matters(&run->books);
+    run->tally->most_matters = most > run->tally->most_matters ? most : run->tally->most_matters;
     if (run->task->log != NULL)
         books_write(&run->books, run->task->log);
     return true;
@@ -656,14 +686,16 @@ static bool take_up_journal(struct run *run)
 }
 
 /* What was open may not have reached its desk, and its reply may be lost. */
-static void send_again(struct run *run)
+static bool send_again(struct run *run)
 {
-    for (unsigned booking = 1; booking <= run->plan->bookings; booking++) {
+    bool good = true;
+    for (unsigned booking = 1; booking <= run->plan->bookings && good; booking++) {
         if (run->state[booking] == CAMPAIGN_REQUESTED)
-            send_order(run, (struct entry) {CAMPAIGN_REQUEST_LETTER, booking}, "once more, ");
+            good = send_order(run, (struct entry) {CAMPAIGN_REQUEST_LETTER, booking}, "once more, ");
         if (run->state[booking] == CAMPAIGN_RETURNING)
-            send_order(run, (struct entry) {CAMPAIGN_RETURN_LETTER, booking}, "once more, ");
+            good = send_order(run, (struct entry) {CAMPAIGN_RETURN_LETTER, booking}, "once more, ");
     }
+    return good;
 }
 
 static bool go_on(struct run *run)
@@ -684,8 +716,7 @@ static bool go_on(struct run *run)
         say(run, "  -- calling off\n");
     else
         say_way(run, "now");
-    send_again(run);
-    return hear_when_back(run);
+    return send_again(run) && hear_when_back(run);
 }
 
 static bool start(struct run *run)
@@ -695,8 +726,8 @@ static bool start(struct run *run)
         return blame(run, "start did not begin with way 1 and all bookings free", answer);
     if (!take_up_journal(run))
         return false;
-    say(run, "campaign of seed %" PRIu64 ": %u bookings, %u ways; desks refuse %u in 100\n", run->task->seed,
-        run->plan->bookings, run->plan->ways, run->desks.refusing);
+    say(run, "campaign of seed %" PRIu64 ": %u bookings, %u ways, most matters open per desk %u; desks refuse %u in 100\n",
+        run->task->seed, run->plan->bookings, run->plan->ways, run->plan->limit, run->desks.refusing);
     return go_on(run);
 }
 

@@ -15,6 +15,7 @@ struct tally {
     unsigned long discarded;
     unsigned long switches;
     unsigned long blocks, most_at_once; /* replies that one block took */
+    unsigned most_matters;              /* open at one desk at one time */
 };
 
 struct task {

@@ -166,6 +166,7 @@ static void write_summary(const struct plan *plan, const struct tally *t, const 
            t->confirmed, t->declined, t->returns, t->returned, t->kept);
     printf("  ways changed %lu times; %lu replies fitted nothing and were refused, %lu came again and were discarded\n",
            t->switches, t->misfits, t->discarded);
+    printf("  most matters open at a desk at once: %u, limit %u\n", t->most_matters, plan->limit);
     if (t->blocks > 0)
         printf("  %lu blocks; most replies taken at once: %lu\n", t->blocks, t->most_at_once);
 }

@@ -107,6 +107,7 @@ static void take_bookings(struct reading *r, struct plan *plan)
         take_number_within(r, booking, booking);
         expect_byte(r, ' ');
         plan->kind[booking] = take_kind(r);
+        plan->desk[booking] = take_number_within(r, 1, CAMPAIGN_MOST_DESKS);
         expect_byte(r, '\n');
     }
 }
@@ -140,6 +141,7 @@ static void take_sheet(struct reading *r, struct plan *plan)
     plan->bookings = take_number_within(r, 1, CAMPAIGN_MOST_BOOKINGS);
     unsigned links = take_number_within(r, 0, CAMPAIGN_MOST_LINKS);
     plan->ways = take_number_within(r, 1, CAMPAIGN_MOST_WAYS);
+    plan->limit = take_number_within(r, 1, CAMPAIGN_MOST_MATTERS);
     expect_byte(r, '\n');
     if (r->fault)
         return;

@@ -12,8 +12,10 @@ struct plan {
     size_t length;
     unsigned bookings;
     unsigned ways;
-    char kind[CAMPAIGN_MOST_BOOKINGS + 1]; /* by booking, from 1 */
-    uint64_t way[CAMPAIGN_MOST_WAYS + 1];  /* by way, from 1; booking b is bit b - 1 */
+    unsigned limit; /* most matters open per desk */
+    char kind[CAMPAIGN_MOST_BOOKINGS + 1];     /* by booking, from 1 */
+    unsigned desk[CAMPAIGN_MOST_BOOKINGS + 1]; /* by booking, from 1 */
+    uint64_t way[CAMPAIGN_MOST_WAYS + 1];      /* by way, from 1; booking b is bit b - 1 */
 };
 
 /* Takes the file's bytes; false if it can't be read, with the reason in errno. */

@@ -17,8 +17,8 @@ static const char *before_place(uint32_t refusal)
 {
     switch (refusal) {
     case CAMPAIGN_FORM: return "the sheet ends early, goes on too long, or has a malformed line: line";
-    case CAMPAIGN_COUNT: return "a count is outside its limits: line";
-    case CAMPAIGN_NUMBER: return "a number is out of sequence, not rising, or no booking: line";
+    case CAMPAIGN_COUNT: return "a count or the most matters per desk is outside its limits: line";
+    case CAMPAIGN_NUMBER: return "a number is out of sequence, not rising, no booking, or no desk: line";
     case CAMPAIGN_CIRCLE: return "links run in a circle: a booking comes before itself: booking";
     case CAMPAIGN_WAY_NOT_CLOSED: return "a way lacks what comes before one of its bookings: way";
     case CAMPAIGN_UNUSED: return "a booking is in no way: booking";

@@ -16,8 +16,10 @@
 FIXED(CAMPAIGN_MOST_BOOKINGS == 64);
 FIXED(CAMPAIGN_MOST_LINKS == 512);
 FIXED(CAMPAIGN_MOST_WAYS == 16);
+FIXED(CAMPAIGN_MOST_DESKS == 8);
+FIXED(CAMPAIGN_MOST_MATTERS == 64);
 FIXED(CAMPAIGN_STATE_LENGTH == 1 + CAMPAIGN_MOST_BOOKINGS);
-FIXED(CAMPAIGN_LONGEST_SHEET == 14 + 64 * 8 + 512 * 10 + 16 * (6 + 64 * 4));
+FIXED(CAMPAIGN_LONGEST_SHEET == 18 + 64 * 12 + 512 * 10 + 16 * (6 + 64 * 4));
 
 FIXED(CAMPAIGN_FREE == 0 && CAMPAIGN_REQUESTED == 1 && CAMPAIGN_HELD == 2);
 FIXED(CAMPAIGN_LOST == 3 && CAMPAIGN_RETURNING == 4);
@@ -55,24 +57,26 @@ static uint32_t check(const char *sheet)
     return campaign_check((const uint8_t *) sheet, strlen(sheet));
 }
 
-#define TANKER_HEAD "B   1 C\nB   2 P\nB   3 C\n"
+#define TANKER_HEAD "B   1 C   1\nB   2 P   1\nB   3 C   1\n"
 
-static const char tanker[] = "P   4   3   2\n" TANKER_HEAD "B   4 R\nL   1   2\nL   2   3\nL   2   4\n"
+static const char tanker[] = "P   4   3   2  64\n" TANKER_HEAD "B   4 R   1\nL   1   2\nL   2   3\nL   2   4\n"
                              "A   3   1   2   3\nA   3   1   2   4\n";
-static const char twin[] = "P   3   2   1\n" TANKER_HEAD "L   1   2\nL   2   3\nA   3   1   2   3\n";
+static const char twin[] = "P   3   2   1  64\n" TANKER_HEAD "L   1   2\nL   2   3\nA   3   1   2   3\n";
 
 static void checks(void)
 {
     expect("tanker", check(tanker), CAMPAIGN_ACCEPTED, 0, 0);
     expect("no sheet", check(""), CAMPAIGN_REFUSED, CAMPAIGN_FORM, 1);
-    expect("no way", check("P   1   0   0\n"), CAMPAIGN_REFUSED, CAMPAIGN_COUNT, 1);
-    expect("first number", check("P   1   0   1\nB   2 C\nA   1   1\n"), CAMPAIGN_REFUSED, CAMPAIGN_NUMBER, 2);
-    expect("circle", check("P   2   2   1\nB   1 C\nB   2 C\nL   1   2\nL   2   1\nA   2   1   2\n"),
+    expect("no way", check("P   1   0   0  64\n"), CAMPAIGN_REFUSED, CAMPAIGN_COUNT, 1);
+    expect("first number", check("P   1   0   1  64\nB   2 C   1\nA   1   1\n"), CAMPAIGN_REFUSED, CAMPAIGN_NUMBER, 2);
+    expect("circle", check("P   2   2   1  64\nB   1 C   1\nB   2 C   1\nL   1   2\nL   2   1\nA   2   1   2\n"),
            CAMPAIGN_REFUSED, CAMPAIGN_CIRCLE, 1);
-    expect("way not closed", check("P   2   1   2\nB   1 C\nB   2 C\nL   1   2\nA   2   1   2\nA   1   2\n"),
+    expect("way not closed",
+           check("P   2   1   2  64\nB   1 C   1\nB   2 C   1\nL   1   2\nA   2   1   2\nA   1   2\n"),
            CAMPAIGN_REFUSED, CAMPAIGN_WAY_NOT_CLOSED, 2);
-    expect("unused", check("P   2   0   1\nB   1 C\nB   2 C\nA   1   1\n"), CAMPAIGN_REFUSED, CAMPAIGN_UNUSED, 2);
-    expect("way twice", check("P   1   0   2\nB   1 C\nA   1   1\nA   1   1\n"),
+    expect("unused", check("P   2   0   1  64\nB   1 C   1\nB   2 C   1\nA   1   1\n"),
+           CAMPAIGN_REFUSED, CAMPAIGN_UNUSED, 2);
+    expect("way twice", check("P   1   0   2  64\nB   1 C   1\nA   1   1\nA   1   1\n"),
            CAMPAIGN_REFUSED, CAMPAIGN_WAY_TWICE, 2);
     expect("twin", check(twin), CAMPAIGN_REFUSED, CAMPAIGN_STRANDING, 259);
     if (campaign_stranded_way(259) != 1 || campaign_stranded_booking(259) != 3) {
@@ -159,7 +163,7 @@ static void restart(const char *sheet, const char *journal, size_t state_len, ui
     expect_bytes(journal, state, wanted, sizeof state);
 }
 
-static const char pair[] = "P   2   0   1\nB   1 C\nB   2 C\nA   2   1   2\n";
+static const char pair[] = "P   2   0   1  64\nB   1 C   1\nB   2 C   1\nA   2   1   2\n";
 
 #define TO_CHASE "Q   1\nY   1\nQ   2\nY   2\nQ   3\n"
 
@@ -209,7 +213,8 @@ static void block(const char *sheet, const char *before, const char *lines, uint
 }
 
 /* All four can be asked for at once; way 2 is the last alone. */
-static const char field[] = "P   4   0   2\nB   1 C\nB   2 D\nB   3 C\nB   4 D\nA   4   1   2   3   4\nA   1   4\n";
+static const char field[] = "P   4   0   2  64\nB   1 C   1\nB   2 D   1\nB   3 C   1\nB   4 D   1\n"
+                            "A   4   1   2   3   4\nA   1   4\n";
 
 #define ASKED "\1\1\1\1\1"
 #define FIRST_HELD "\1\2\1\1\1"
@@ -278,14 +283,14 @@ static void blocks_refused_whole(void)
     uint8_t before[CAMPAIGN_STATE_LENGTH] = {1, 1, 1, 1, 1};
     const uint8_t *bytes = (const uint8_t *) "Y   1\nY0002\n";
     block("", ASKED, "Y   1\n", 0, CAMPAIGN_FORM, 1, ASKED);
-    block("P   1   0   0\n", ASKED, "Y   1\n", 0, CAMPAIGN_COUNT, 1, ASKED);
-    block("P   1   0   1\nB   2 C\nA   1   1\n", ASKED, "Y   1\n", 0, CAMPAIGN_NUMBER, 2, ASKED);
-    block("P   2   2   1\nB   1 C\nB   2 C\nL   1   2\nL   2   1\nA   2   1   2\n", ASKED, "Y   1\n",
+    block("P   1   0   0  64\n", ASKED, "Y   1\n", 0, CAMPAIGN_COUNT, 1, ASKED);
+    block("P   1   0   1  64\nB   2 C   1\nA   1   1\n", ASKED, "Y   1\n", 0, CAMPAIGN_NUMBER, 2, ASKED);
+    block("P   2   2   1  64\nB   1 C   1\nB   2 C   1\nL   1   2\nL   2   1\nA   2   1   2\n", ASKED, "Y   1\n",
           0, CAMPAIGN_CIRCLE, 1, ASKED);
-    block("P   2   1   2\nB   1 C\nB   2 C\nL   1   2\nA   2   1   2\nA   1   2\n", ASKED, "Y   1\n",
+    block("P   2   1   2  64\nB   1 C   1\nB   2 C   1\nL   1   2\nA   2   1   2\nA   1   2\n", ASKED, "Y   1\n",
           0, CAMPAIGN_WAY_NOT_CLOSED, 2, ASKED);
-    block("P   2   0   1\nB   1 C\nB   2 C\nA   1   1\n", ASKED, "Y   1\n", 0, CAMPAIGN_UNUSED, 2, ASKED);
-    block("P   1   0   2\nB   1 C\nA   1   1\nA   1   1\n", ASKED, "Y   1\n", 0, CAMPAIGN_WAY_TWICE, 2, ASKED);
+    block("P   2   0   1  64\nB   1 C   1\nB   2 C   1\nA   1   1\n", ASKED, "Y   1\n", 0, CAMPAIGN_UNUSED, 2, ASKED);
+    block("P   1   0   2  64\nB   1 C   1\nA   1   1\nA   1   1\n", ASKED, "Y   1\n", 0, CAMPAIGN_WAY_TWICE, 2, ASKED);
     block(twin, "\1\1\0\0\0", "Y   1\n", 0, CAMPAIGN_STRANDING, 259, "\1\1\0\0\0");
     block(twin, wrong, "Y0001\n", 0, CAMPAIGN_STRANDING, 259, wrong);
     block(field, wrong, "Y   1\n", 0, CAMPAIGN_UNSOUND, 0, wrong);
@@ -301,13 +306,13 @@ static void blocks_refused_whole(void)
 /* As many as there can be: 64 replies, and one more. */
 static void longest_block(void)
 {
-    char sheet[14 + 64 * 8 + 6 + 64 * 4 + 1];
+    char sheet[18 + 64 * 12 + 6 + 64 * 4 + 1];
     char lines[65 * 6 + 1];
     uint8_t state[CAMPAIGN_STATE_LENGTH];
     uint8_t held[CAMPAIGN_STATE_LENGTH];
-    size_t at = (size_t) sprintf(sheet, "P  64   0   1\n");
+    size_t at = (size_t) sprintf(sheet, "P  64   0   1  64\n");
     for (int booking = 1; booking <= 64; booking++)
-        at += (size_t) sprintf(sheet + at, "B%4d C\n", booking);
+        at += (size_t) sprintf(sheet + at, "B%4d C   1\n", booking);
     at += (size_t) sprintf(sheet + at, "A  64");
     for (int booking = 1; booking <= 64; booking++)
         at += (size_t) sprintf(sheet + at, "%4d", booking);
@@ -453,9 +458,165 @@ static void nulls_of_a_block(void)
     expect_bytes("null: block", state, before, sizeof state);
 }
 
+/* Desks and the most matters open per desk. */
+
+/* One booking; the limit and the desk as they stand on the sheet. */
+#define SINGLE(limit, desk) "P   1   0   1" limit "\nB   1 C" desk "\nA   1   1\n"
+
+static void limits_on_sheets(void)
+{
+    expect("limit 1", check(SINGLE("   1", "   1")), CAMPAIGN_ACCEPTED, 0, 0);
+    expect("limit 64", check(SINGLE("  64", "   1")), CAMPAIGN_ACCEPTED, 0, 0);
+    expect("limit 0", check(SINGLE("   0", "   1")), 0, CAMPAIGN_COUNT, 1);
+    expect("limit 65", check(SINGLE("  65", "   1")), 0, CAMPAIGN_COUNT, 1);
+    expect("limit 9999", check(SINGLE("9999", "   1")), 0, CAMPAIGN_COUNT, 1);
+    expect("a head of 14 bytes", check(SINGLE("", "   1")), 0, CAMPAIGN_FORM, 1);
+    expect("a sheet of the old form", check(SINGLE("", "")), 0, CAMPAIGN_FORM, 1);
+    expect("no limit", check(SINGLE("    ", "   1")), 0, CAMPAIGN_FORM, 1);
+    expect("limit 01", check(SINGLE("  01", "   1")), 0, CAMPAIGN_FORM, 1);
+    expect("limit to the left", check(SINGLE("1   ", "   1")), 0, CAMPAIGN_FORM, 1);
+    expect("a fifth number", check(SINGLE("   1   1", "   1")), 0, CAMPAIGN_FORM, 1);
+    expect("a head that ends in the limit", check("P   1   0   1   1"), 0, CAMPAIGN_FORM, 1);
+    /* The form of the whole head comes before its numbers, all of the head before the next line. */
+    expect("no booking and limit 01", check("P   0   0   1  01\n"), 0, CAMPAIGN_FORM, 1);
+    expect("limit 65 and desk 01", check(SINGLE("  65", "  01")), 0, CAMPAIGN_COUNT, 1);
+}
+
+static void desks_on_sheets(void)
+{
+    expect("desk 8", check(SINGLE("   1", "   8")), CAMPAIGN_ACCEPTED, 0, 0);
+    expect("desk 0", check(SINGLE("   1", "   0")), 0, CAMPAIGN_NUMBER, 2);
+    expect("desk 9", check(SINGLE("   1", "   9")), 0, CAMPAIGN_NUMBER, 2);
+    expect("desk 9999", check(SINGLE("   1", "9999")), 0, CAMPAIGN_NUMBER, 2);
+    expect("a booking line of 8 bytes", check(SINGLE("   1", "")), 0, CAMPAIGN_FORM, 2);
+    expect("no desk", check(SINGLE("   1", "    ")), 0, CAMPAIGN_FORM, 2);
+    expect("desk 01", check(SINGLE("   1", "  01")), 0, CAMPAIGN_FORM, 2);
+    expect("two desks", check(SINGLE("   1", "   1   2")), 0, CAMPAIGN_FORM, 2);
+    expect("desk 9 in line 3", check("P   2   0   1   1\nB   1 C   8\nB   2 C   9\nA   2   1   2\n"),
+           0, CAMPAIGN_NUMBER, 3);
+    /* The form of the whole line comes before its numbers, a line before the next one. */
+    expect("number 2 and desk 01", check("P   1   0   1   1\nB   2 C  01\nA   1   1\n"), 0, CAMPAIGN_FORM, 2);
+    expect("number 2 and desk 9", check("P   1   0   1   1\nB   2 C   9\nA   1   1\n"), 0, CAMPAIGN_NUMBER, 2);
+    expect("desk 9, then no line", check("P   2   0   1   1\nB   1 C   9\n"), 0, CAMPAIGN_NUMBER, 2);
+}
+
+/* The range slot and the cameras at desk 1, the two aircraft at desk 2: the sheet in the header. */
+static const char in_header[] = "P   4   3   2   2\nB   1 C   1\nB   2 P   2\nB   3 C   2\nB   4 R   1\n"
+                                "L   1   2\nL   2   3\nL   2   4\nA   3   1   2   3\nA   3   1   2   4\n";
+
+/* 1 range slot, then 2 and 3 telemetry vans at desk 2 and 4 a chase aircraft at desk 3; or else 5 a telemetry aircraft. */
+#define TELEMETRY "B   1 C   1\nB   2 C   2\nB   3 D   2\nB   4 C   3\nB   5 R   3\n" \
+                  "L   1   2\nL   1   3\nL   1   4\nL   1   5\nA   4   1   2   3   4\nA   2   1   5\n"
+
+static const char one_matter[] = "P   5   4   2   1\n" TELEMETRY;
+static const char two_matters[] = "P   5   4   2   2\n" TELEMETRY;
+
+/* A campaign from its start: each step is a letter of the drill, an order or a reply, and its number. */
+static void play(const char *sheet, const char *steps)
+{
+    static const char orders[] = "QUWEO"; /* kinds 1 to 5 */
+    uint8_t state[CAMPAIGN_STATE_LENGTH];
+    size_t length = strlen(sheet);
+    expect("start", campaign_start((const uint8_t *) sheet, length, state, sizeof state), CAMPAIGN_ACCEPTED, 0, 0);
+    for (; *steps != '\0'; steps += 2) {
+        const char *order = strchr(orders, steps[0]);
+        uint32_t number = (uint32_t) (steps[1] - '0');
+        if (order != NULL)
+            expect(steps, campaign_next_order((const uint8_t *) sheet, length, state, sizeof state),
+                   1 + (uint32_t) (order - orders), 0, number);
+        else
+            expect(steps, campaign_reply((const uint8_t *) sheet, length, state, sizeof state, (uint8_t) steps[0],
+                                         number), CAMPAIGN_ACCEPTED, 0, number);
+    }
+}
+
+static void campaigns_with_desks(void)
+{
+    /* The vans one after the other, there and back; the second is passed over for the chase aircraft. */
+    play(one_matter, "Q1W0Y1" "Q2Q4W0Y2" "Q3W0N3" "Q3W0Y3" "W0N4" "U2W0K2" "U2W0G2" "U3W0G3" "Q5W0N5" "Q5W0Y5" "E2");
+    play(two_matters, "Q1W0Y1" "Q2Q3Q4W0Y2" "W0N3" "Q3W0Y3" "W0N4" "U2U3W0K2" "U2W0G2" "W0G3" "Q5W0N5" "Q5W0Y5" "E2");
+    /* The way is lost while the second van is still passed over: it's never requested. */
+    play(one_matter, "Q1W0Y1" "Q2Q4W0N4" "W0Y2" "U2W0G2" "Q5W0Y5" "E2");
+    /* A desk that has answered one of two takes on the next. */
+    play(two_matters, "Q1W0Y1" "Q2Q3Q4W0N3" "Q3W0Y3" "W0Y2" "W0Y4" "E1");
+    play(in_header, "Q1W0Y1" "Q2W0Y2" "Q3W0N3" "Q4W0Y4" "E2");
+}
+
+/* The state with these first five bytes has a desk with more matters than the limit: 11 comes before 9, nothing changes. */
+static void overloaded(const char *sheet, const char *front)
+{
+    const uint8_t *bytes = (const uint8_t *) sheet;
+    size_t length = strlen(sheet);
+    uint8_t state[CAMPAIGN_STATE_LENGTH] = {0};
+    uint8_t before[CAMPAIGN_STATE_LENGTH];
+    memcpy(state, front, 5);
+    memcpy(before, state, sizeof before);
+    expect("overloaded: order", campaign_next_order(bytes, length, state, sizeof state), 0, CAMPAIGN_UNSOUND, 0);
+    expect("overloaded: reply", campaign_reply(bytes, length, state, sizeof state, CAMPAIGN_CONFIRMED, 2),
+           0, CAMPAIGN_UNSOUND, 0);
+    expect("overloaded: misfit", campaign_reply(bytes, length, state, sizeof state, '?', 2), 0, CAMPAIGN_UNSOUND, 0);
+    expect_bytes("overloaded", state, before, sizeof state);
+    block(sheet, front, "", 0, CAMPAIGN_UNSOUND, 0, front);
+    block(sheet, front, "Y   2\nY0003\n", 0, CAMPAIGN_UNSOUND, 0, front);
+}
+
+static void states_with_desks(void)
+{
+    overloaded(one_matter, "\1\2\1\1\0");
+    overloaded(one_matter, "\1\2\1\1\1");
+    overloaded(one_matter, "\2\2\4\4\3");
+    block(two_matters, "\1\2\1\1\0", "", CAMPAIGN_ACCEPTED, 0, 0, "\1\2\1\1\0");
+    block(two_matters, "\1\2\1\1\1", "Y   2\nN   3\n", CAMPAIGN_ACCEPTED, 0, 2, "\1\2\2\0\1");
+    block(two_matters, "\2\2\4\4\3", "G   3\n", CAMPAIGN_ACCEPTED, 0, 1, "\2\2\4\0\3");
+    block(one_matter, "\1\2\1\0\1", "Y   4\n", CAMPAIGN_ACCEPTED, 0, 1, "\1\2\1\0\2"); /* one at each desk */
+    block(one_matter, "\2\2\4\2\3", "K   2\n", CAMPAIGN_ACCEPTED, 0, 1, "\2\2\2\2\3"); /* held is no matter */
+}
+
+/* What a desk can't take on is not the order that was due. */
+static void restarts_with_desks(void)
+{
+    restart(one_matter, "Q   1\nY   1\nQ   2\nQ   4\n", 65, CAMPAIGN_ACCEPTED, 0, 0, "\1\2\1\0\1");
+    restart(one_matter, "Q   1\nY   1\nQ   2\nQ   3\n", 65, 0, CAMPAIGN_WRONG_LINE, 4, NULL);
+    restart(two_matters, "Q   1\nY   1\nQ   2\nQ   3\n", 65, CAMPAIGN_ACCEPTED, 0, 0, "\1\2\1\1\0");
+    restart(two_matters, "Q   1\nY   1\nQ   2\nQ   4\n", 65, 0, CAMPAIGN_WRONG_LINE, 4, NULL);
+    restart(one_matter, "Q   1\nY   1\nQ   2\nQ   4\nY   2\nQ   3\nY   3\nN   4\nU   2\nU   3\n", 65,
+            0, CAMPAIGN_WRONG_LINE, 10, NULL);
+    restart(two_matters, "Q   1\nY   1\nQ   2\nQ   3\nQ   4\nY   2\nY   3\nN   4\nU   2\nU   3\n", 65,
+            CAMPAIGN_ACCEPTED, 0, 0, "\2\2\4\4\3");
+}
+
+/* The longest text of the form: its ways are all equal, so it is refused with 7, once it has been read to its end. */
+static void longest_sheet(void)
+{
+    static char sheet[CAMPAIGN_LONGEST_SHEET + 2];
+    size_t at = (size_t) sprintf(sheet, "P  64 512  16  64\n");
+    for (int booking = 1; booking <= 64; booking++)
+        at += (size_t) sprintf(sheet + at, "B%4d C   8\n", booking);
+    for (int link = 0, u = 1, v = 2; link < 512; link++, u += v == 64, v = v == 64 ? u + 1 : v + 1)
+        at += (size_t) sprintf(sheet + at, "L%4d%4d\n", u, v);
+    for (int way = 1; way <= 16; way++) {
+        at += (size_t) sprintf(sheet + at, "A  64");
+        for (int booking = 1; booking <= 64; booking++)
+            at += (size_t) sprintf(sheet + at, "%4d", booking);
+        at += (size_t) sprintf(sheet + at, "\n");
+    }
+    expect("the longest sheet's length", (uint32_t) at, 0, 0, CAMPAIGN_LONGEST_SHEET);
+    expect("the longest sheet", check(sheet), 0, CAMPAIGN_WAY_TWICE, 2);
+    sheet[at] = '\n';
+    expect("a byte too many", check(sheet), 0, CAMPAIGN_FORM, 594);
+    sheet[at - 1] = '\0';
+    expect("a byte too few", check(sheet), 0, CAMPAIGN_FORM, 593);
+}
+
 int main(void)
 {
     checks();
+    limits_on_sheets();
+    desks_on_sheets();
+    longest_sheet();
+    campaigns_with_desks();
+    states_with_desks();
+    restarts_with_desks();
     calls();
     journal_lines();
     restarts_that_pass();

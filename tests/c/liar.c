@@ -33,9 +33,35 @@ static uint32_t packed(uint32_t kind, uint32_t place)
     return kind << 24 | place;
 }
 
+/* The same sheet with a limit that no desk reaches: the head's last number, columns 14 to 17. */
+static const uint8_t *without_limit(const uint8_t *sheet, size_t sheet_len)
+{
+    static uint8_t loose[CAMPAIGN_LONGEST_SHEET];
+    memcpy(loose, sheet, sheet_len);
+    memcpy(loose + 13, "  64", 4);
+    return loose;
+}
+
+static int overfills(uint32_t kind)
+{
+    return (kind == CAMPAIGN_REQUEST && lie_is("requests though a desk is full"))
+        || (kind == CAMPAIGN_RETURN && lie_is("returns though a desk is full")) || lie_is("forgets the limit");
+}
+
+static uint32_t next_order(const uint8_t *sheet, size_t sheet_len, uint8_t *state, size_t state_len)
+{
+    uint8_t after[CAMPAIGN_STATE_LENGTH];
+    memcpy(after, state, sizeof after);
+    uint32_t answer = __real_campaign_next_order(without_limit(sheet, sheet_len), sheet_len, after, sizeof after);
+    if (!overfills(campaign_kind_of(answer)))
+        return __real_campaign_next_order(sheet, sheet_len, state, state_len);
+    memcpy(state, after, sizeof after);
+    return answer;
+}
+
 uint32_t __wrap_campaign_next_order(const uint8_t *sheet, size_t sheet_len, uint8_t *state, size_t state_len)
 {
-    uint32_t answer = __real_campaign_next_order(sheet, sheet_len, state, state_len);
+    uint32_t answer = next_order(sheet, sheet_len, state, state_len);
     uint32_t kind = campaign_kind_of(answer);
     if (lie_is("flown too early") && kind == CAMPAIGN_WAIT)
         return packed(CAMPAIGN_FLOWN, 1);
@@ -153,6 +179,8 @@ uint32_t __wrap_campaign_restart(const uint8_t *sheet, size_t sheet_len, const u
         journal += line;
         journal_len -= line;
     }
+    if (lie_is("forgets the limit"))
+        sheet = without_limit(sheet, sheet_len);
     uint32_t answer = __real_campaign_restart(sheet, sheet_len, journal, journal_len, state, state_len);
     uint32_t refusal = campaign_refusal_of(answer);
     uint32_t place = campaign_place_of(answer);

@@ -211,7 +211,7 @@ static struct bytes find_blocks(const char *log, size_t lines)
     if (within.at == NULL)
         fail(NULL, "no memory");
     for (const char *at = log; at != NULL && line <= lines; at = strchr(at, '\n'), at += at != NULL) {
-        bool reply = begins(at, "  desk ") && begins(at + strlen("  desk NN"), " says: ");
+        bool reply = begins(at, "  desk ") && begins(at + strlen("  desk N"), " says: ");
         if (reply || begins(at, "  to desk ")) {
             in_block = in_block && reply;
             within.at[line++] = in_block && after_reply;
@@ -607,7 +607,7 @@ static const char *line_of(struct bytes lines, const char *letters, int booking,
     return NULL;
 }
 
-/* What both asked of a desk it answered alike. */
+/* What both asked for a booking its desk answered alike. */
 static void check_desks(const struct campaign *campaign, struct bytes lines)
 {
     for (int booking = 1; booking <= 64; booking++) {
@@ -615,7 +615,7 @@ static void check_desks(const struct campaign *campaign, struct bytes lines)
         for (unsigned number = 1; (one = line_of(lines, "QU", booking, number)) != NULL
              && (other = line_of(campaign->journal, "QU", booking, number)) != NULL && *one == *other; number++)
             if (*line_of(lines, "YNGK", booking, number) != *line_of(campaign->journal, "YNGK", booking, number))
-                fail(campaign, "desk %d answers order %u otherwise:\n%s\nnot\n%s", booking, number, lines.at,
+                fail(campaign, "the desk of booking %d answers order %u otherwise:\n%s\nnot\n%s", booking, number, lines.at,
                      campaign->journal.at);
     }
 }

@@ -130,6 +130,12 @@ pub or-swap : (a b : Bool) → a || b ≡ b || a
 or-swap true b = sym (or-r b true refl)
 or-swap false b = sym (or-false b)
 
+-- neither of two, taken one after the other
+pub and-nor : (a b c : Bool) → a && not (b || c) ≡ (a && not b) && not c
+and-nor true true c = refl
+and-nor true false c = refl
+and-nor false b c = refl
+
 -- ---- not, and where
 
 -- past `if !x { return .. }`, where the call x gave a

@@ -1,14 +1,14 @@
 -- The laws of `sum` and `count`.
 -- Assumes nothing.
-use mathlib.Core.Path.{_≡_, refl}
+use mathlib.Core.Path.{_≡_, refl, ap, _∙_}
 use mathlib.Core.Logic.{_≢_, inl, inr}
-use mathlib.Core.Bool.{Bool, true}
+use mathlib.Core.Bool.{Bool, true, false}
 use Prim.Native.Nat.{ℕ, zero, suc, _+_, _*_, _≤_, _<_}
 use native.Mathlib.Nat.{not-suc-le-zero, le-refl, eq-or-lt-of-le, mul-suc}
 use native.Mathlib.Omega.{arith}
 use native.Mathlib.Numerals.{add-one}
 use Rattle.bounded.specs.Bounded.{one, sum, count}
-use Rattle.bounded.proofs.Bools.{last?, one-le}
+use Rattle.bounded.proofs.Bools.{last?, same?, one-le}
 
 -- ---- sums
 
@@ -86,4 +86,24 @@ count-lt f zero i h e = absurd (not-suc-le-zero h)
 count-lt f (suc n) i h e = elim (last? h) [
   | inl p ↦ (let q : f n ≡ true = rw p at e in rw (p, q) (omega arith))
   | inr l ↦ omega (arith, count-lt f n i l e)
+]
+
+one-mono : (a b : Bool) → (a ≡ true → b ≡ true) → one a ≤ one b
+one-mono true b h = rw (h refl) (omega arith)
+one-mono false b h = omega arith
+
+pub count-none : (f : ℕ → Bool) (n : ℕ) → ((i : ℕ) → i < n → f i ≡ false) → count f n ≡ 0
+count-none f n h = count-sum f n ∙ sum-zero (λ i. one (f i)) n (λ i l. ap one (h i l))
+
+-- what passes f passes g
+pub count-mono : (f g : ℕ → Bool) (n : ℕ) → ((i : ℕ) → i < n → f i ≡ true → g i ≡ true) → count f n ≤ count g n
+count-mono f g n h = omega (arith, count-sum f n, count-sum g n, sum-mono (λ i. one (f i)) (λ i. one (g i)) n (λ i l. one-mono (f i) (g i) (h i l)))
+
+-- but for one number, what passes f passes g
+pub count-but-one : (f g : ℕ → Bool) (n x : ℕ) → ((i : ℕ) → i < n → i ≢ x → f i ≡ true → g i ≡ true) → count f n ≤ count g n + 1
+unfolding count
+count-but-one f g zero x h = omega arith
+count-but-one f g (suc n) x h = elim (same? n x) [
+  | inl p ↦ omega (arith, one-le (f n), count-mono f g n (λ i l e. h i (omega arith) (omega arith) e))
+  | inr d ↦ omega (arith, count-but-one f g n x (λ i l. h i (omega arith)), one-mono (f n) (g n) (h n (le-refl (suc n)) d))
 ]

@@ -44,7 +44,7 @@ checkCall s = cond (isFine (sheetOf s .judged)) (checkBits (check (networkIn s))
 
 -- what is worked out of a sheet before anything else; a sheet that does not read has no network
 unfoldable pub noNetwork : Network
-noNetwork = record { n = 0; a = 0; way = replicate 16 0; before = replicate 64 0; firm = 0; exposed = 0 }
+noNetwork = record { n = 0; a = 0; way = replicate 16 0; before = replicate 64 0; firm = 0; exposed = 0; desk = replicate 8 0; limit = 0 }
 
 abbrev pub judgedAs : Verdict → Network → Checked
 judgedAs v g = record { passes = passes v; bits = checkBits v; network = g }

@@ -153,6 +153,8 @@ fn no_network() -> Network
         before: [0u64; 64],
         firm: 0,
         exposed: 0,
+        desk: [0u64; 8],
+        limit: 0,
     }
 }
 

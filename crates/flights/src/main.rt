@@ -18,7 +18,7 @@ fn find(s: &[u8], from: usize, b: u8) -> usize
 
 // Reads sheet after sheet. Each has its name on a line before it, and a semicolon and a line feed after it.
 fn read_all(cases: &[u8])
-    requires { ⌜ length (now cases) ≤ 4096 ⌝ }
+    requires { ⌜ length (now cases) ≤ 65536 ⌝ }
 {
     let mut at = 0;
     while at < cases.len() {
@@ -34,7 +34,7 @@ fn read_all(cases: &[u8])
 }
 
 fn main() {
-    let mut cases = io::buffer();
+    let mut cases = io::large_buffer();
     let n = io::read_full(0, &mut cases);
     read_all(&cases[..n]);
 }

@@ -1,7 +1,7 @@
 -- What the kind of next order's answer says about the state.
 -- Assumes nothing.
 use mathlib.Core.Path.{_≡_, refl, ap}
-use mathlib.Core.Logic.{_≢_, inl, inr}
+use mathlib.Core.Logic.{_≢_, _⊎_, inl, inr}
 use mathlib.Core.Bool.{true, _||_}
 use Prim.Native.Nat.{ℕ, zero, suc, _≤_}
 use native.Mathlib.Omega.{arith}
@@ -33,6 +33,14 @@ at-rest (suc zero) h d e = absurd (d refl)
 at-rest (suc (suc zero)) h d e = refl
 at-rest (suc (suc (suc zero))) h d e = refl
 at-rest (suc (suc (suc (suc c)))) h d e = absurd (omega arith)
+
+-- a code that awaits a reply
+pub awaited : (c : ℕ) → c ≤ returning → 1 ≤ awaits c → (c ≡ requested) ⊎ (c ≡ returning)
+awaited zero h e = absurd (omega arith)
+awaited (suc zero) h e = inl refl
+awaited (suc (suc zero)) h e = absurd (omega arith)
+awaited (suc (suc (suc zero))) h e = absurd (omega arith)
+awaited (suc (suc (suc (suc c)))) h e = inr (omega arith)
 
 let-go : (c : ℕ) → c ≤ returning → c ≢ held → c ≢ returning → hold c ≡ 0
 let-go zero h d e = refl

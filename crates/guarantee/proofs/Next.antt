@@ -19,12 +19,12 @@ use Rattle.standing.specs.Standing.{free, requested, held, lost, returning, cod
 use Rattle.standing.specs.Ways.{precedesSome, ready, lostIn}
 use Rattle.standing.proofs.Facts.{precedes-i, precedes-e}
 use Rattle.run.specs.State.{code, is, standing, here, put}
-use Rattle.run.specs.Orders.{toReturn, toRequest}
+use Rattle.run.specs.Orders.{passed, mayReturn, toReturn, mayRequest, toRequest}
 use Rattle.run.specs.declared.Run.{Run}
 use Rattle.run.specs.declared.Ordered.{Ordered}
 use Rattle.run.specs.declared.Order.the-variants.{Wait}
 use Rattle.run.proofs.Facts.{Core, Sound, is-i, is-e, coded-i, coded-e, some-coded, none-coded, inside, lost-i, lost-e}
-use Rattle.run.proofs.Cases.{Idle, Done, NextCase, blocked, gives, busy, asks, pends, over, flies, return-facts, request-facts}
+use Rattle.run.proofs.Cases.{Idle, Done, NextCase, blocked, gives, busy, asks, pends, over, flies, return-facts, request-facts, none-passed, has-room}
 use Rattle.guarantee.proofs.Change.{Fits, hit, miss, change}
 
 -- the held and returning bookings
@@ -47,7 +47,7 @@ module _ (g : Network) (ok : Passes g) (r : Run) (c : Core g r) where
 
   -- rule 2 finds a booking while one is held outside the current way: of these a last one in the order precedes nothing held
   pub no-loose : Idle g r → (b : ℕ) → code r b ≡ held → inWay g (r .way) b ≡ true
-  unfolding toReturn inWay
+  unfolding toReturn mayReturn inWay
   no-loose i b e = elim (which (inWay g (r .way) b)) [
     | inl z ↦ z
     | inr o ↦
@@ -63,8 +63,10 @@ module _ (g : Network) (ok : Passes g) (r : Run) (c : Core g r) where
           | inl y ↦ clash (pre g m v) (w .3) (x .apart v (w .1) (is-i r held v (coded-e g r held v y .1) & not-i _ (outside m v out (w .3))))
           | inr y ↦ none-is returning v (omega arith) (i .none-returning) (coded-e g r returning v y .1)
         ]) in
+        let p : passed g (standing g r) m ≡ false =
+        none-passed g (ok .shape .some-matter) r (λ q. c .quiet-outside b q e o) (λ q. none-is returning q (omega arith) (i .none-returning)) m in
         clash (toReturn g (standing g r) (here g r) m)
-        (without-i (standing g r .held) (here g r) m (low m (x .below)) (coded-i g r held m (x .below) (is-e r held m (and-l (is r held m) _ (x .passes)))) out & not-i _ f)
+        ((without-i (standing g r .held) (here g r) m (low m (x .below)) (coded-i g r held m (x .below) (is-e r held m (and-l (is r held m) _ (x .passes)))) out & not-i _ f) & not-i _ p)
         (i .kept m (low m (x .below))))
   ]
     where
@@ -82,7 +84,7 @@ module _ (g : Network) (ok : Passes g) (r : Run) (c : Core g r) where
 
   -- rule 4 finds a booking while one of the current way is free: of these a first one in the order has all predecessors held
   pub all-held : Done g r → (b : ℕ) → inWay g (r .way) b ≡ true → code r b ≡ held
-  unfolding toRequest ready pre inWay
+  unfolding toRequest mayRequest ready pre inWay
   all-held d b i = elim (same? (code r b) held) [
     | inl e ↦ e
     | inr n ↦
@@ -99,8 +101,10 @@ module _ (g : Network) (ok : Passes g) (r : Run) (c : Core g r) where
           | inl z ↦ z
           | inr z ↦ clash (pre g u m) e (x .apart u l (is-i r free u (free-or-held d u iu z) & iu))
         ])) in
+        let p : passed g (standing g r) m ≡ false =
+        none-passed g (ok .shape .some-matter) r (λ q. none-is requested q (omega arith) (d .none-requested)) (λ q. none-is returning q (omega arith) (d .idle .none-returning)) m in
         clash (toRequest g (standing g r) (here g r) m)
-        (both-i (standing g r .free) (here g r) m (coded-i g r free m (x .below) (is-e r free m (and-l (is r free m) _ (x .passes)))) im & f) (d .full m (x .below)))
+        ((both-i (standing g r .free) (here g r) m (coded-i g r free m (x .below) (is-e r free m (and-l (is r free m) _ (x .passes)))) im & f) & not-i _ p) (d .full m (x .below)))
   ]
     where
       unmet : ℕ → Bool
@@ -156,6 +160,7 @@ module _ (g : Network) (ok : Passes g) (r : Run) (s : Sound g r) where
         quiet-returning = λ z. absurd (omega arith);
         loose = λ z. absurd (omega arith);
         alone = λ z q a. c′ .quiet-outside x q m (t .outside) a;
+        room = λ z d. has-room g (standing g r) x d (t .taken-on);
         keeps = λ z a. clash (firm g x) a soft;
         firm-in = λ z. absurd (omega arith);
       }
@@ -178,6 +183,7 @@ module _ (g : Network) (ok : Passes g) (r : Run) (s : Sound g r) where
         quiet-returning = λ z b k. none-is g ok r c′ returning b (omega arith) (d .none-returning) k;
         loose = λ z. absurd (omega arith);
         alone = λ z. absurd (omega arith);
+        room = λ z d. has-room g (standing g r) y d (t .taken-on);
         keeps = λ z. absurd (omega arith);
         firm-in = λ z. absurd (omega arith);
       }

@@ -39,6 +39,7 @@ module _ (g : Network) (ok : Passes g) (r : Run) (s : Sound g r) (b : ℕ) (h : 
         quiet-returning = λ e. absurd (d2 e);
         loose = λ e o. clash (inWay g (r .way) b) (c .asked b m) o;
         alone = λ e. absurd (omega arith);
+        room = λ o. absurd (elim o [ inl z ↦ omega arith | inr z ↦ omega arith ]);
         keeps = λ e. absurd (omega arith);
         firm-in = λ e z. c .asked b m;
       }
@@ -71,6 +72,7 @@ module _ (g : Network) (ok : Passes g) (r : Run) (s : Sound g r) (b : ℕ) (h : 
         quiet-returning = λ e. absurd (d2 e);
         loose = λ e o q n. c .quiet-returning b q m n;
         alone = λ e. absurd (omega arith);
+        room = λ o. absurd (elim o [ inl z ↦ omega arith | inr z ↦ omega arith ]);
         keeps = λ e. absurd (omega arith);
         firm-in = λ e z. clash (firm g b) z (c .going b m .0);
       }

@@ -6,12 +6,13 @@ use Prim.Native.Nat.{ℕ}
 use native.Mathlib.Omega.{arith}
 use lib.ListN.{getD-replicate, replicate, List·getD-eq-default}
 use Rattle.bounded.proofs.Bools.{split?}
+use Rattle.desks.proofs.Laws.{open-none}
 use Rattle.network.specs.declared.Network.{Network}
 use Rattle.verdict.proofs.Facts.{Passes}
-use Rattle.standing.specs.Standing.{free}
-use Rattle.run.specs.State.{code, start}
+use Rattle.standing.specs.Standing.{free, matters}
+use Rattle.run.specs.State.{code, standing, start}
 use Rattle.run.specs.Sound.{waysBefore}
-use Rattle.run.proofs.Facts.{Sound}
+use Rattle.run.proofs.Facts.{Sound, no-matter}
 
 pub all-free : (b : ℕ) → code start b ≡ free
 unfolding code start
@@ -34,6 +35,7 @@ start-sound g ok =
         quiet-returning = λ b q e m. omega (arith, all-free b);
         earlier = λ k h. absurd (omega arith);
         firm-in = λ b e z. absurd (omega (arith, all-free b));
+        desks = λ d h. omega (arith, open-none (g .desk) d (matters (standing g start)) (λ b. no-matter g start b (omega (arith, all-free b)) (omega (arith, all-free b))));
       };
       waits = λ b e i. absurd (omega (arith, all-free b));
     }

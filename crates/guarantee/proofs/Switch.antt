@@ -95,6 +95,7 @@ module _ (g : Network) (ok : Passes g) (r : Run) (c : Core g r) (x : ℕ) (lx : 
             quiet-returning = λ p q e m. none q m;
             earlier = b;
             firm-in = l .has-firm;
+            desks = c .desks;
           };
           waits = λ q e i. absurd (l .unlost q i e);
         }

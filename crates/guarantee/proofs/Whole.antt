@@ -1,34 +1,41 @@
 -- The whole campaign: for every network that passes and every list of calls from the start.
 -- Assumes nothing.
 use mathlib.Core.Path.{_≡_, refl, sym, ap, _∙_}
-use mathlib.Core.Logic.{inl, inr}
+use mathlib.Core.Logic.{_⊎_, inl, inr}
 use mathlib.Core.Bool.{true, false}
 use mathlib.Core.List.{List, [], _∷_}
-use Prim.Native.Nat.{ℕ, suc, _+_, _*_, _≤_}
+use Prim.Native.Nat.{ℕ, suc, _+_, _*_, _≤_, _<_}
 use native.Mathlib.Omega.{arith}
 use lib.Dec.{eqb}
-use borrow.Author.Tests.{eqb-true}
+use lib.Bits.{bitAnd}
+use lib.ListN.{getD}
+use borrow.Author.Tests.{eqb-true, ltb-true}
 use Rattle.bounded.specs.Bounded.{one}
-use Rattle.bounded.proofs.Bools.{or-cases}
-use Rattle.network.specs.Network.{inWay, firm}
+use Rattle.bounded.proofs.Bools.{or-cases, and-l, and-r}
+use Rattle.bounded.proofs.Sums.{count-mono, count-upto}
+use Rattle.sets.specs.Sets.{member, sizeOf}
+use Rattle.sets.proofs.Facts.{both-i}
+use Rattle.desks.specs.Desks.{openAt}
+use Rattle.network.specs.Network.{inWay, firm, deskOf}
 use Rattle.network.specs.declared.Network.{Network}
 use Rattle.verdict.proofs.Facts.{Passes}
 use Rattle.network.proofs.Facts.{no-way}
-use Rattle.run.specs.State.{code, start}
+use Rattle.standing.specs.Standing.{requested, returning, matters}
+use Rattle.run.specs.State.{code, standing, start}
 use Rattle.run.specs.Orders.{next}
 use Rattle.run.specs.declared.Run.{Run}
-use Rattle.run.proofs.Facts.{Sound}
+use Rattle.run.proofs.Facts.{Sound, matter-i}
 use Rattle.run.proofs.Cases.{Done, next-case}
 use Rattle.guarantee.specs.Answers.{kindOf, placeOf, orderBits}
 use Rattle.guarantee.specs.Machine.{Asked, nextOrder, answer, after, machineAnswers, final}
 use Rattle.guarantee.specs.Calls.{callBits, answersTo, orderAfter}
-use Rattle.guarantee.specs.Counted.{ends, confirmed, returned, ordered, answered, event, again, tally}
+use Rattle.guarantee.specs.Counted.{ends, confirmed, returned, ordered, answered, event, again, tally, outstanding, openHere, openMatters}
 use Rattle.guarantee.specs.Demand.{Settled, Kept, Undone, Demand3, SemiAtomic, one-way, no-effect}
 use Rattle.guarantee.specs.Guarantee.{Guarantee}
 use Rattle.guarantee.proofs.Start.{all-free, start-sound}
 use Rattle.guarantee.proofs.Potential.{potential, potential-start}
 use Rattle.guarantee.proofs.Moved.{hold, awaits, moved}
-use Rattle.guarantee.proofs.Ends.{Decided, goes, flown-e, off-e, ended, decided}
+use Rattle.guarantee.proofs.Ends.{Decided, awaited, goes, flown-e, off-e, ended, decided}
 use Rattle.guarantee.proofs.Bytes.{call-bits, calls-answers, calls-states, calls-left}
 
 -- ---- what a list of calls does, from any sound state
@@ -75,6 +82,19 @@ module _ (g : Network) (ok : Passes g) (qs : List Asked) (xs : List ℕ) (t : Ru
   nowhere : t .way ≡ 0 → (b : ℕ) → inWay g (t .way) b ≡ false
   nowhere e b = ap (λ (w : ℕ). inWay g w b) e ∙ no-way g b
 
+  -- what is outstanding is requested or returning
+  open-now : (b : ℕ) → outstanding qs xs (suc b) ≡ true → (code t b ≡ requested) ⊎ (code t b ≡ returning)
+  unfolding outstanding
+  open-now b e = awaited (code t b) (k .sound .core .codes b) (omega (arith, ltb-true (tally (answered (suc b)) qs xs) (tally (ordered (suc b)) qs xs) e, unanswered b))
+
+  desk-limits : (d : ℕ) → d < 8 → openMatters g qs xs d ≤ g .limit
+  unfolding openMatters openHere openAt sizeOf deskOf
+  desk-limits d h =
+      let m = matters (standing g t) in
+      let fewer = count-mono (openHere g qs xs d) (member (bitAnd (getD (g .desk) d 0) m)) (g .n) (λ b l e.
+      both-i (getD (g .desk) d 0) m b (and-l (member (getD (g .desk) d 0) b) _ e) (matter-i g t b l (open-now b (and-r (member (getD (g .desk) d 0) b) _ e)))) in
+      omega (arith, fewer, count-upto (member (bitAnd (getD (g .desk) d 0) m)) (g .n) 64 (ok .shape .bookings), k .sound .core .desks d h)
+
   demanded : Demand3 g qs xs (orderBits (next g t .order))
   demanded =
       let n = next-case g t in
@@ -93,6 +113,7 @@ module _ (g : Network) (ok : Passes g) (qs : List Asked) (xs : List ℕ) (t : Ru
             let u = undone (f .0) b (nowhere (f .1) b) in
             (u, λ z. omega (arith, u, k .firms b z));
         bound = omega (arith, k .cost, potential-start g ok);
+        desks = desk-limits;
       }
 
   semi : ends (orderBits (next g t .order)) ≡ true → SemiAtomic g qs xs

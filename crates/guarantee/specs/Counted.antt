@@ -3,10 +3,10 @@
 use mathlib.Core.Bool.{Bool, _&&_, _||_}
 use mathlib.Core.List.{List, [], _∷_}
 use Prim.Native.Nat.{ℕ, suc, pred, _+_}
-use lib.Dec.{eqb}
-use Rattle.bounded.specs.Bounded.{one, sum}
-use Rattle.sets.specs.Sets.{sizeOf}
-use Rattle.network.specs.Network.{wayOf, repeats}
+use lib.Dec.{eqb, ltb}
+use Rattle.bounded.specs.Bounded.{one, sum, count}
+use Rattle.sets.specs.Sets.{member, sizeOf}
+use Rattle.network.specs.Network.{wayOf, repeats, deskOf}
 use Rattle.network.specs.declared.Network.{Network}
 use Rattle.run.specs.Replies.{Y, N, G, K}
 use Rattle.guarantee.specs.Answers.{kindOf, placeOf}
@@ -59,6 +59,17 @@ unfoldable pub tally : (Asked → ℕ → ℕ) → List Asked → List ℕ → �
 tally f [] xs = 0
 tally f (q ∷ qs) [] = 0
 tally f (q ∷ qs) (x ∷ xs) = f q x + tally f qs xs
+
+-- more requests and returns than accepted replies name booking b: a reply to it is outstanding, and it is an open matter
+unfoldable pub outstanding : List Asked → List ℕ → ℕ → Bool
+outstanding qs xs b = ltb (tally (answered b) qs xs) (tally (ordered b) qs xs)
+
+-- how many open matters desk d has; desks and the bookings in their sets go by index
+unfoldable pub openHere : Network → List Asked → List ℕ → ℕ → ℕ → Bool
+openHere g qs xs d b = member (deskOf g d) b && outstanding qs xs (suc b)
+
+unfoldable pub openMatters : Network → List Asked → List ℕ → ℕ → ℕ
+openMatters g qs xs d = count (openHere g qs xs d) (g .n)
 
 -- s: how many bookings the ways have together
 unfoldable pub waySize : Network → ℕ → ℕ

@@ -4,12 +4,13 @@
 use mathlib.Core.Path.{_≡_}
 use mathlib.Core.Bool.{true, false, _||_}
 use mathlib.Core.List.{List}
-use Prim.Native.Nat.{ℕ, suc, _+_, _*_, _≤_}
+use Prim.Native.Nat.{ℕ, suc, _+_, _*_, _≤_, _<_}
+use Rattle.plan.specs.Limits.{mostDesks}
 use Rattle.network.specs.Network.{inWay, firm}
 use Rattle.network.specs.declared.Network.{Network}
 use Rattle.guarantee.specs.Answers.{kindOf, placeOf}
 use Rattle.guarantee.specs.Machine.{Asked}
-use Rattle.guarantee.specs.Counted.{sends, ends, confirmed, returned, ordered, answered, event, again, tally, waySizes}
+use Rattle.guarantee.specs.Counted.{sends, ends, confirmed, returned, ordered, answered, event, again, tally, openMatters, waySizes}
 
 module _ (qs : List Asked) (xs : List ℕ) where
   -- no reply is outstanding: no booking is named by more requests and returns than accepted replies
@@ -35,6 +36,8 @@ pub record Demand3 (g : Network) (qs : List Asked) (xs : List ℕ) (x : ℕ) : T
   pub called-off : kindOf x ≡ 5 → (b : ℕ) → Undone qs xs (suc b) × (firm g b ≡ true → tally (confirmed (suc b)) qs xs ≡ 0)
   -- requests, returns and accepted replies are at most 4s + 2q
   pub bound : tally event qs xs ≤ 4 * waySizes g + 2 * tally (again g) qs xs
+  -- no desk has more open matters than the limit
+  pub desks : (d : ℕ) → d < mostDesks → openMatters g qs xs d ≤ g .limit
 
 -- Definition 2 of report 93-069: all subtransactions of one partial order commit and all other attempted ones are aborted or
 -- have their effects undone, or no partial effects remain permanent. A way is a partial order and a booking a subtransaction.

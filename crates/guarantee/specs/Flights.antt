@@ -4,7 +4,7 @@ use mathlib.Core.List.{List, [], _∷_, map}
 use Prim.Native.Nat.{ℕ, pred}
 use lib.ListN.{length}
 use Rattle.sets.specs.Sets.{insert}
-use Rattle.plan.specs.Limits.{C, P, R, D}
+use Rattle.plan.specs.Limits.{mostMatters, C, P, R, D}
 use Rattle.plan.specs.declared.Plan.{Plan}
 use Rattle.network.specs.FromPlan.{networkOf}
 use Rattle.verdict.specs.Check.{check}
@@ -36,9 +36,24 @@ unfoldable pub setOf : List ℕ → ℕ
 setOf [] = 0
 setOf (b ∷ bs) = insert (setOf bs) (pred b)
 
+-- its desks, and how many matters each may have open
+unfoldable pub plannedAt : List ℕ → ℕ → List ℕ → List Link → List (List ℕ) → Plan
+plannedAt ds limit ks ls ws =
+    record {
+      n = length ks;
+      m = length ls;
+      a = length ws;
+      limit = limit;
+      kind = ks;
+      desk = ds;
+      from = map (λ l. l .from) ls;
+      to = map (λ l. l .to) ls;
+      way = map setOf ws;
+    }
+
+-- one desk for all, with the greatest limit
 unfoldable pub planOf : List ℕ → List Link → List (List ℕ) → Plan
-planOf ks ls ws =
-    record { n = length ks; m = length ls; a = length ws; kind = ks; from = map (λ l. l .from) ls; to = map (λ l. l .to) ls; way = map setOf ws }
+planOf ks ls ws = plannedAt (map (λ k. 1) ks) mostMatters ks ls ws
 
 -- ---- answers
 
@@ -60,6 +75,9 @@ accepted b = pack 6 0 b
 unfoldable pub flownBy : ℕ → ℕ
 flownBy w = pack 4 0 w
 
+unfoldable pub waits : ℕ
+waits = pack 3 0 0
+
 unfoldable pub calledOff : ℕ
 calledOff = pack 5 0 0
 
@@ -70,6 +88,10 @@ checked ks ls ws x = record { plan = planOf ks ls ws; calls = []; expected = x �
 -- a plan that passes and is run
 unfoldable pub flown : List ℕ → List (List ℕ) → List Asked → List ℕ → Flight
 flown ks ws qs xs = record { plan = planOf ks [] ws; calls = qs; expected = passes ∷ xs }
+
+-- a plan with desks that is run
+unfoldable pub limited : List ℕ → ℕ → List ℕ → List (List ℕ) → List Asked → List ℕ → Flight
+limited ds limit ks ws qs xs = record { plan = plannedAt ds limit ks [] ws; calls = qs; expected = passes ∷ xs }
 
 unfoldable pub flights : List Flight
 flights =
@@ -106,4 +128,16 @@ flights =
     ∷ flown (P ∷ D ∷ []) ((1 ∷ 2 ∷ []) ∷ [])
     (nextOrder ∷ nextOrder ∷ replied Y 2 ∷ replied N 1 ∷ nextOrder ∷ replied G 2 ∷ nextOrder ∷ [])
     (request 1 ∷ request 2 ∷ accepted 2 ∷ accepted 1 ∷ return 2 ∷ accepted 2 ∷ calledOff ∷ [])
+    -- two telemetry vans at one desk and a chase aircraft at another, one matter at a time for each desk: the second van is passed over
+    ∷ limited (1 ∷ 1 ∷ 2 ∷ []) 1 (C ∷ C ∷ C ∷ []) ((1 ∷ 2 ∷ 3 ∷ []) ∷ [])
+    (nextOrder ∷ nextOrder ∷ nextOrder ∷ replied Y 1 ∷ nextOrder ∷ nextOrder ∷ [])
+    (request 1 ∷ request 3 ∷ waits ∷ accepted 1 ∷ request 2 ∷ waits ∷ [])
+    -- two at a time
+    ∷ limited (1 ∷ 1 ∷ 2 ∷ []) 2 (C ∷ C ∷ C ∷ []) ((1 ∷ 2 ∷ 3 ∷ []) ∷ [])
+    (nextOrder ∷ nextOrder ∷ nextOrder ∷ nextOrder ∷ [])
+    (request 1 ∷ request 2 ∷ request 3 ∷ waits ∷ [])
+    -- the vans go back one after the other
+    ∷ limited (1 ∷ 1 ∷ 2 ∷ []) 1 (C ∷ C ∷ C ∷ []) ((1 ∷ 2 ∷ 3 ∷ []) ∷ [])
+    (nextOrder ∷ replied Y 1 ∷ nextOrder ∷ replied Y 2 ∷ nextOrder ∷ replied N 3 ∷ nextOrder ∷ nextOrder ∷ replied G 1 ∷ nextOrder ∷ replied G 2 ∷ nextOrder ∷ [])
+    (request 1 ∷ accepted 1 ∷ request 2 ∷ accepted 2 ∷ request 3 ∷ accepted 3 ∷ return 1 ∷ waits ∷ accepted 1 ∷ return 2 ∷ accepted 2 ∷ calledOff ∷ [])
     ∷ []

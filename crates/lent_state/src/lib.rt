@@ -78,16 +78,18 @@ fn take_order(
     g: Network,
     before: &[u64; 64],
     ways: &[u64; 16],
+    desks: &[u64; 8],
     s: Standing,
     letter: u8,
     booking: u32,
     state: &mut [u8],
 ) -> Stood
-    requires { ⌜ (now before ≡ g .before) × (now ways ≡ g .way) × (g .n ≤ 64) × (length (now state) ≡ 65) × (runOf (now state) .way ≤ 16) × (s ≡ standing g (runOf (now state))) ⌝ }
+    requires { ⌜ (now before ≡ g .before) × (now ways ≡ g .way) × (now desks ≡ g .desk) × (g .n ≤ 64) × (length (now state) ≡ 65) × (runOf (now state) .way ≤ 16) × (s ≡ standing g (runOf (now state))) ⌝ }
     ensures told { λ t. ⌜ t ≡ stoodBy g (orderLine g (runOf (now (state .entry))) letter booking) ⌝ }
     ensures left { λ _. ⌜ now (state .exit) ≡ bytesOf (orderLine g (runOf (now (state .entry))) letter booking .run) ⌝ }
 {
-    let order = run::due_order(g, before, ways, s, state[0]);
+    let full = desks::full(g.limit, desks, s.matters());
+    let order = run::due_order(g, before, ways, full, s, state[0]);
     let code = code_due(order, letter, booking);
     if code == NONE {
         return Stood {
@@ -203,19 +205,20 @@ fn take_line(
     g: Network,
     before: &[u64; 64],
     ways: &[u64; 16],
+    desks: &[u64; 8],
     s: Standing,
     orders: bool,
     letter: u8,
     booking: u32,
     state: &mut [u8],
 ) -> Stood
-    requires { ⌜ (now before ≡ g .before) × (now ways ≡ g .way) × (g .n ≤ 64) × (g .a ≤ 16)
+    requires { ⌜ (now before ≡ g .before) × (now ways ≡ g .way) × (now desks ≡ g .desk) × (g .n ≤ 64) × (g .a ≤ 16)
         × (length (now state) ≡ 65) × (runOf (now state) .way ≤ 16) × (s ≡ standing g (runOf (now state))) ⌝ }
     ensures told { λ t. ⌜ t ≡ stoodBy g (lineBy orders g (runOf (now (state .entry))) (Line.Given letter booking)) ⌝ }
     ensures left { λ _. ⌜ now (state .exit) ≡ bytesOf (lineBy orders g (runOf (now (state .entry))) (Line.Given letter booking) .run) ⌝ }
 {
     if has_order(orders, letter) {
-        return take_order(g, before, ways, s, letter, booking, state);
+        return take_order(g, before, ways, desks, s, letter, booking, state);
     }
     take_reply(g, ways, s, letter, booking, state)
 }
@@ -230,6 +233,7 @@ pub fn take_lines(g: Network, s: Standing, lines: &[u8], orders: bool, state: &m
 {
     let before = g.before;
     let ways = g.way;
+    let desks = g.desk;
     let mut standing = s;
     let mut at = 0;
     let mut kept = 0;
@@ -242,7 +246,17 @@ pub fn take_lines(g: Network, s: Standing, lines: &[u8], orders: bool, state: &m
         let Line::Given(letter, booking) = line else {
             return Taken { kept, fault: 1 };
         };
-        let t = take_line(g, &before, &ways, standing, orders, letter, booking, state);
+        let t = take_line(
+            g,
+            &before,
+            &ways,
+            &desks,
+            standing,
+            orders,
+            letter,
+            booking,
+            state,
+        );
         if !t.taken {
             return Taken { kept, fault: 9 };
         }

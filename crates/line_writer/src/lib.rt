@@ -11,30 +11,32 @@ ghost use Rattle.lines.specs.Form.{headBytes, bookingBytes, linkBytes};
 ghost use Rattle.lines.specs.Head.{headText};
 ghost use Rattle.lines.specs.Booking.{bookingText};
 ghost use Rattle.lines.specs.Link.{linkText};
-ghost use Rattle.lines.specs.Kinds.{kindsText};
+ghost use Rattle.lines.specs.Bookings.{bookingsText};
 ghost use Rattle.lines.specs.Links.{linksText};
 
 // Writes the head line at the front.
-pub fn write_head(buf: &mut [u8], n: usize, m: usize, a: usize)
+pub fn write_head(buf: &mut [u8], n: usize, m: usize, a: usize, limit: usize)
     requires { ⌜ headBytes ≤ length (now buf) ⌝ }
-    ensures { λ _. ⌜ now (buf .exit) ≡ sets (now (buf .entry)) 0 (headText n m a) ⌝ }
+    ensures { λ _. ⌜ now (buf .exit) ≡ sets (now (buf .entry)) 0 (headText n m a limit) ⌝ }
 {
     decimal::write_byte(buf, 0, b'P');
     decimal::write_field(buf, 1, 4, n);
     decimal::write_field(buf, 5, 4, m);
     decimal::write_field(buf, 9, 4, a);
+    decimal::write_field(buf, 13, 4, limit);
     decimal::write_byte(buf, HEAD_BYTES - 1, 10);
 }
 
-// Writes the line of booking number x, of kind k, from at on.
-pub fn write_booking(buf: &mut [u8], at: usize, x: usize, k: u8)
+// Writes the line of booking number x, of kind k and at desk d, from at on.
+pub fn write_booking(buf: &mut [u8], at: usize, x: usize, k: u8, d: usize)
     requires { ⌜ at + bookingBytes ≤ length (now buf) ⌝ }
-    ensures { λ _. ⌜ now (buf .exit) ≡ sets (now (buf .entry)) at (bookingText x k) ⌝ }
+    ensures { λ _. ⌜ now (buf .exit) ≡ sets (now (buf .entry)) at (bookingText x k d) ⌝ }
 {
     decimal::write_byte(buf, at, b'B');
     decimal::write_field(buf, at + 1, 4, x);
     decimal::write_byte(buf, at + 5, b' ');
     decimal::write_byte(buf, at + 6, k);
+    decimal::write_field(buf, at + 7, 4, d);
     decimal::write_byte(buf, at + (BOOKING_BYTES - 1), 10);
 }
 
@@ -50,13 +52,19 @@ pub fn write_link(buf: &mut [u8], at: usize, u: usize, v: usize)
 }
 
 // Writes the lines of the bookings 1 to n from at on.
-pub fn write_kinds(buf: &mut [u8], at: usize, n: usize, kind: [u8; 64])
+pub fn write_bookings(buf: &mut [u8], at: usize, n: usize, kind: [u8; 64], desk: [u8; 64])
     requires { ⌜ (n ≤ mostBookings) × (at + bookingBytes * n ≤ length (now buf)) ⌝ }
-    ensures { λ _. ⌜ now (buf .exit) ≡ sets (now (buf .entry)) at (kindsText n 0 kind) ⌝ }
+    ensures { λ _. ⌜ now (buf .exit) ≡ sets (now (buf .entry)) at (bookingsText n 0 kind desk) ⌝ }
 {
     let mut i = 0;
     while i < n {
-        write_booking(buf, at + BOOKING_BYTES * i, i + 1, kind[i]);
+        write_booking(
+            buf,
+            at + BOOKING_BYTES * i,
+            i + 1,
+            kind[i],
+            desk[i] as usize,
+        );
         i += 1;
     }
 }

@@ -1,95 +1,123 @@
--- The round trips of the lines of all bookings and of all links: what is written is read back (`kinds-read`, `links-read`), and accepted
--- lines are, to the byte, what is written of what was read, whose entries are good (`kinds-accepted`, `links-accepted`). `letter-at` says which
--- letter a booking's line has.
+-- The round trips of the lines of all bookings and of all links: what is written is read back (`bookings-read`, `links-read`), and accepted
+-- lines are, to the byte, what is written of what was read, whose entries are good (`bookings-accepted`, `links-accepted`). `letter-at` and
+-- `desk-at` say which letter and which desk a booking's line has.
 -- Assumes nothing.
 use Prim.Native.Nat.{ℕ, zero, suc, _+_, _*_, _^_, _<_, _≤_}
 use mathlib.Core.Path.{_≡_, refl, sym, ap, _∙_}
 use mathlib.Core.Logic.{inl, inr}
 use mathlib.Core.List.{List, _∷_, _++_, append-assoc}
-use mathlib.Core.Bool.{true}
+use mathlib.Core.Bool.{true, _&&_}
 use native.Mathlib.Nat.{add-zero}
 use native.Mathlib.Omega.{arith}
 use native.Mathlib.Numerals.{add-one}
 use lib.ListN.{length, getD, take, drop, set, length-set}
 use lib.Seq.{drop-drop, take-at, drop-at, take-add, getD-set-same, getD-set-other}
-use Rattle.bounded.proofs.Bools.{clash, same?}
-use Rattle.plan.specs.Record.{kindAt, linkAt}
-use Rattle.plan.specs.Limits.{inSequence}
+use Rattle.bounded.proofs.Bools.{clash, and-l, and-r, _&_, same?}
+use Rattle.plan.specs.Record.{bookingAt, linkAt}
+use Rattle.plan.specs.Limits.{isKind, isDesk, inSequence}
 use Rattle.plan.specs.declared.Judged.the-variants.{Fine, Form, Sequence}
 use Rattle.lines.specs.Form.{bookingBytes, linkBytes}
-use Rattle.lines.specs.Booking.{bookingText, kindIn, bookingOf}
+use Rattle.lines.specs.Booking.{bookingText, kindIn, deskIn, bookingOf}
 use Rattle.lines.specs.Link.{linkText, linkOf}
-use Rattle.lines.specs.Kinds.{kindsText, afterBooking, kindsOf}
+use Rattle.lines.specs.Bookings.{bookingsText, afterBooking, bookingsOf}
 use Rattle.lines.specs.Links.{Links, linksText, afterLink, linksOf}
 use Rattle.lines.specs.declared.Booking.{Booking}
 use Rattle.lines.specs.declared.Booking.the-variants as B
 use Rattle.lines.specs.declared.Link.{Link}
 use Rattle.lines.specs.declared.Link.the-variants as L
-use Rattle.lines.specs.declared.Kinds.{Kinds}
+use Rattle.lines.specs.declared.Bookings.{Bookings}
 use Rattle.bounded.proofs.Filled.{filled}
 use Rattle.lines.proofs.Lengths.{booking-length, link-length}
-use Rattle.lines.proofs.RoundTrip.{its-kind, BookingIs, booking-read, booking-accepted, LinkIs, link-read, link-accepted}
+use Rattle.lines.proofs.RoundTrip.{its-kind, its-desk, BookingIs, booking-read, booking-accepted, LinkIs, link-read, link-accepted}
 
 -- ---- bookings
 
--- the letter on the line of the b-th booking from index i on
-pub letter-at : (n i b : ℕ) (ks rest : List ℕ) → b < n → kindIn (drop (bookingBytes * b) (kindsText n i ks ++ rest)) ≡ getD ks (i + b) 0
-unfolding kindsText
-letter-at zero i b ks rest h = absurd (omega arith)
-letter-at (suc n) i zero ks rest h =
-    let t : List ℕ = bookingText (i + 1) (getD ks i 0) in
-    let e : t ++ kindsText n (i + 1) ks ++ rest ≡ t ++ (kindsText n (i + 1) ks ++ rest) = append-assoc t _ _ in
-    rw (e, add-zero i) (its-kind (i + 1) (getD ks i 0) (kindsText n (i + 1) ks ++ rest))
-letter-at (suc n) i (suc b) ks rest h =
-    let t : List ℕ = bookingText (i + 1) (getD ks i 0) in
-    let r : List ℕ = kindsText n (i + 1) ks ++ rest in
-    let e : t ++ kindsText n (i + 1) ks ++ rest ≡ t ++ r = append-assoc t _ _ in
+-- the line of the b-th booking from index i on, and then the rest
+line-at : (n i b : ℕ) (ks ds rest : List ℕ) → b < n
+    → (after : List ℕ) × (drop (bookingBytes * b) (bookingsText n i ks ds ++ rest) ≡ bookingText (i + b + 1) (getD ks (i + b) 0) (getD ds (i + b) 0) ++ after)
+unfolding bookingsText
+line-at zero i b ks ds rest h = absurd (omega arith)
+line-at (suc n) i zero ks ds rest h =
+    (bookingsText n (i + 1) ks ds ++ rest, rw (add-zero i) (append-assoc (bookingText (i + 1) (getD ks i 0) (getD ds i 0)) _ _))
+line-at (suc n) i (suc b) ks ds rest h =
+    let t : List ℕ = bookingText (i + 1) (getD ks i 0) (getD ds i 0) in
+    let r : List ℕ = bookingsText n (i + 1) ks ds ++ rest in
+    let e : t ++ bookingsText n (i + 1) ks ds ++ rest ≡ t ++ r = append-assoc t _ _ in
     let m : bookingBytes * suc b ≡ bookingBytes + bookingBytes * b = omega arith in
-    let d : drop bookingBytes (t ++ r) ≡ r = drop-at t r bookingBytes (booking-length (i + 1) (getD ks i 0)) in
+    let d : drop bookingBytes (t ++ r) ≡ r = drop-at t r bookingBytes (booking-length (i + 1) (getD ks i 0) (getD ds i 0)) in
     let p : i + 1 + b ≡ i + suc b = omega arith in
-    rw (e, m, ← (drop-drop (bookingBytes * b) bookingBytes (t ++ r)), d) (rw p at (letter-at n (i + 1) b ks rest (omega arith)))
+    let l = line-at n (i + 1) b ks ds rest (omega arith) in
+    (l .0, rw (e, m, ← (drop-drop (bookingBytes * b) bookingBytes (t ++ r)), d) (rw p at (l .1)))
 
-pub kinds-read : (n i : ℕ) (ks rest acc : List ℕ) → i + n < 10 ^ 4 → ((j : ℕ) → i ≤ j → j < i + n → kindAt ks j ≡ true)
-    → kindsOf n i (kindsText n i ks ++ rest) acc ≡ record { judged = Fine; kind = filled n i ks acc }
-unfolding kindsOf kindsText filled kindAt
-kinds-read zero i ks rest acc h q = refl
-kinds-read (suc n) i ks rest acc h q =
-    let b : List ℕ = bookingText (i + 1) (getD ks i 0) in
-    let e : bookingText (i + 1) (getD ks i 0) ++ kindsText n (i + 1) ks ++ rest ≡ b ++ (kindsText n (i + 1) ks ++ rest) = append-assoc b _ _ in
-    let t : take bookingBytes (b ++ (kindsText n (i + 1) ks ++ rest)) ≡ b = take-at b _ bookingBytes (booking-length _ _) in
-    let d : drop bookingBytes (b ++ (kindsText n (i + 1) ks ++ rest)) ≡ kindsText n (i + 1) ks ++ rest = drop-at b _ bookingBytes (booking-length _ _) in
-    let r : bookingOf b (i + 1) ≡ B.Kind (getD ks i 0) = booking-read (i + 1) (getD ks i 0) (omega arith) (q i (omega arith) (omega arith)) in
-    rw (e, t, d, r) (kinds-read n (i + 1) ks rest (set acc i (getD ks i 0)) (omega arith) (λ j l u. q j (omega arith) (omega arith)))
+-- its letter, and its desk
+pub letter-at : (n i b : ℕ) (ks ds rest : List ℕ) → b < n → kindIn (drop (bookingBytes * b) (bookingsText n i ks ds ++ rest)) ≡ getD ks (i + b) 0
+letter-at n i b ks ds rest h =
+    let l = line-at n i b ks ds rest h in
+    rw (l .1) (its-kind (i + b + 1) (getD ks (i + b) 0) (getD ds (i + b) 0) (l .0))
 
-pub record KindsAre (n i : ℕ) (rest acc ks : List ℕ) : Type 0 where
-  pub text : take (bookingBytes * n) rest ≡ kindsText n i ks
-  pub good : (j : ℕ) → i ≤ j → j < i + n → kindAt ks j ≡ true
-  pub kept : (j : ℕ) → j < i → getD ks j 0 ≡ getD acc j 0
+pub desk-at : (n i b : ℕ) (ks ds rest : List ℕ) → b < n → getD ds (i + b) 0 < 10 ^ 4
+    → deskIn (drop (bookingBytes * b) (bookingsText n i ks ds ++ rest)) ≡ getD ds (i + b) 0
+desk-at n i b ks ds rest h q =
+    let l = line-at n i b ks ds rest h in
+    rw (l .1) (its-desk (i + b + 1) (getD ks (i + b) 0) (getD ds (i + b) 0) (l .0) q)
 
-pub kinds-accepted : (n i : ℕ) (rest acc ks : List ℕ) → i + n ≤ length acc → kindsOf n i rest acc ≡ record { judged = Fine; kind = ks } → KindsAre n i rest acc ks
-unfolding kindsOf kindsText kindAt
-kinds-accepted zero i rest acc ks h e =
-    let k : acc ≡ ks = ap (λ (r : Kinds). r .kind) e in
-    record { text = refl; good = λ j l u. absurd (omega arith); kept = λ j l. ap (λ (r : List ℕ). getD r j 0) (sym k) }
-kinds-accepted (suc n) i rest acc ks h e =
-    go (λ k. kinds-accepted n (i + 1) (drop bookingBytes rest) (set acc i k) ks (rw length-set (omega arith))) (bookingOf (take bookingBytes rest) (i + 1)) refl e
+pub bookings-read : (n i : ℕ) (ks ds rest ak ad : List ℕ) → i + n < 10 ^ 4 → ((j : ℕ) → i ≤ j → j < i + n → bookingAt ks ds j ≡ true)
+    → bookingsOf n i (bookingsText n i ks ds ++ rest) ak ad ≡ record { judged = Fine; kind = filled n i ks ak; desk = filled n i ds ad }
+unfolding bookingsOf bookingsText filled bookingAt
+bookings-read zero i ks ds rest ak ad h q = refl
+bookings-read (suc n) i ks ds rest ak ad h q =
+    let b : List ℕ = bookingText (i + 1) (getD ks i 0) (getD ds i 0) in
+    let s : List ℕ = bookingsText n (i + 1) ks ds ++ rest in
+    let e : bookingText (i + 1) (getD ks i 0) (getD ds i 0) ++ bookingsText n (i + 1) ks ds ++ rest ≡ b ++ s = append-assoc b _ _ in
+    let t : take bookingBytes (b ++ s) ≡ b = take-at b _ bookingBytes (booking-length _ _ _) in
+    let d : drop bookingBytes (b ++ s) ≡ s = drop-at b _ bookingBytes (booking-length _ _ _) in
+    let g : isKind (getD ks i 0) && isDesk (getD ds i 0) ≡ true = q i (omega arith) (omega arith) in
+    let r : bookingOf b (i + 1) ≡ B.Entry (getD ks i 0) (getD ds i 0) =
+    booking-read (i + 1) (getD ks i 0) (getD ds i 0) (omega arith) (and-l (isKind (getD ks i 0)) _ g) (and-r (isKind (getD ks i 0)) _ g) in
+    rw (e, t, d, r)
+    (bookings-read n (i + 1) ks ds rest (set ak i (getD ks i 0)) (set ad i (getD ds i 0)) (omega arith) (λ j l u. q j (omega arith) (omega arith)))
+
+pub record BookingsAre (n i : ℕ) (rest ak ad ks ds : List ℕ) : Type 0 where
+  pub text : take (bookingBytes * n) rest ≡ bookingsText n i ks ds
+  pub good : (j : ℕ) → i ≤ j → j < i + n → bookingAt ks ds j ≡ true
+  pub kept : (j : ℕ) → j < i → (getD ks j 0 ≡ getD ak j 0) × (getD ds j 0 ≡ getD ad j 0)
+
+pub bookings-accepted : (n i : ℕ) (rest ak ad ks ds : List ℕ) → i + n ≤ length ak → i + n ≤ length ad
+    → bookingsOf n i rest ak ad ≡ record { judged = Fine; kind = ks; desk = ds } → BookingsAre n i rest ak ad ks ds
+unfolding bookingsOf bookingsText bookingAt
+bookings-accepted zero i rest ak ad ks ds h m e =
+    let k : ak ≡ ks = ap (λ (r : Bookings). r .kind) e in
+    let d : ad ≡ ds = ap (λ (r : Bookings). r .desk) e in
+    record {
+      text = refl;
+      good = λ j l u. absurd (omega arith);
+      kept = λ j l. (ap (λ (r : List ℕ). getD r j 0) (sym k), ap (λ (r : List ℕ). getD r j 0) (sym d));
+    }
+bookings-accepted (suc n) i rest ak ad ks ds h m e =
+    go (λ k d. bookings-accepted n (i + 1) (drop bookingBytes rest) (set ak i k) (set ad i d) ks ds (rw length-set (omega arith)) (rw length-set (omega arith)))
+    (bookingOf (take bookingBytes rest) (i + 1)) refl e
   where
-    go : ((k : ℕ) → kindsOf n (i + 1) (drop bookingBytes rest) (set acc i k) ≡ record { judged = Fine; kind = ks } → KindsAre n (i + 1) (drop bookingBytes rest) (set acc i k) ks)
+    go : ((k d : ℕ) → bookingsOf n (i + 1) (drop bookingBytes rest) (set ak i k) (set ad i d) ≡ record { judged = Fine; kind = ks; desk = ds }
+        → BookingsAre n (i + 1) (drop bookingBytes rest) (set ak i k) (set ad i d) ks ds)
         → (b : Booking) → bookingOf (take bookingBytes rest) (i + 1) ≡ b
-        → afterBooking b (i + 2) acc (λ k. kindsOf n (i + 1) (drop bookingBytes rest) (set acc i k)) ≡ record { judged = Fine; kind = ks }
-        → KindsAre (suc n) i rest acc ks
-    go more (B.Kind k) f g =
-        let a : KindsAre n (i + 1) (drop bookingBytes rest) (set acc i k) ks = more k g in
-        let l : BookingIs (take bookingBytes rest) (i + 1) k = booking-accepted (take bookingBytes rest) (i + 1) k f in
-        let v : getD ks i 0 ≡ k = a .kept i (omega arith) ∙ getD-set-same acc i k 0 (omega arith) in
-        let m : bookingBytes * suc n ≡ bookingBytes + bookingBytes * n = omega arith in
+        → afterBooking b (i + 2) ak ad (λ k d. bookingsOf n (i + 1) (drop bookingBytes rest) (set ak i k) (set ad i d)) ≡ record { judged = Fine; kind = ks; desk = ds }
+        → BookingsAre (suc n) i rest ak ad ks ds
+    go more (B.Entry k d) f g =
+        let a : BookingsAre n (i + 1) (drop bookingBytes rest) (set ak i k) (set ad i d) ks ds = more k d g in
+        let l : BookingIs (take bookingBytes rest) (i + 1) k d = booking-accepted (take bookingBytes rest) (i + 1) k d f in
+        let v : getD ks i 0 ≡ k = a .kept i (omega arith) .0 ∙ getD-set-same ak i k 0 (omega arith) in
+        let w : getD ds i 0 ≡ d = a .kept i (omega arith) .1 ∙ getD-set-same ad i d 0 (omega arith) in
+        let c : bookingBytes * suc n ≡ bookingBytes + bookingBytes * n = omega arith in
         record {
-          text = rw (m, take-add bookingBytes (bookingBytes * n) rest, l .text, a .text, v);
-          good = λ j p u. elim (same? j i) [ inl q ↦ rw (q, v) (l .known) | inr d ↦ a .good j (omega arith) (omega arith) ];
-          kept = λ j p. a .kept j (omega arith) ∙ getD-set-other acc i j k 0 (λ q. omega arith);
+          text = rw (c, take-add bookingBytes (bookingBytes * n) rest, l .text, a .text, v, w);
+          good = λ j p u. elim (same? j i) [ inl q ↦ rw (q, v, w) (l .known & l .desk) | inr o ↦ a .good j (omega arith) (omega arith) ];
+          kept = λ j p. (
+            a .kept j (omega arith) .0 ∙ getD-set-other ak i j k 0 (λ q. omega arith),
+            a .kept j (omega arith) .1 ∙ getD-set-other ad i j d 0 (λ q. omega arith),
+          );
         }
-    go more B.Malformed f g = let w : Form (i + 2) ≡ Fine = ap (λ (r : Kinds). r .judged) g in clash true refl cc
-    go more B.OutOfSequence f g = let w : Sequence (i + 2) ≡ Fine = ap (λ (r : Kinds). r .judged) g in clash true refl cc
+    go more B.Malformed f g = let w : Form (i + 2) ≡ Fine = ap (λ (r : Bookings). r .judged) g in clash true refl cc
+    go more B.OutOfSequence f g = let w : Sequence (i + 2) ≡ Fine = ap (λ (r : Bookings). r .judged) g in clash true refl cc
 
 -- ---- links
 

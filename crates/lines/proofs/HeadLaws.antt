@@ -14,7 +14,7 @@ use Rattle.decimal.proofs.Bytes.{same-refl, same-ne}
 use Rattle.decimal.proofs.Fields.{fault-in, number-is, field-then}
 use Rattle.plan.specs.Limits.{limits}
 use Rattle.lines.specs.Form.{isFramed, headBytes}
-use Rattle.lines.specs.Head.{headText, bookingCountIn, linkCountIn, wayCountIn, isHead, countsOf, headOf}
+use Rattle.lines.specs.Head.{headText, bookingCountIn, linkCountIn, wayCountIn, limitIn, isHead, countsOf, headOf}
 use Rattle.lines.specs.declared.Head.the-variants.{Counts, Malformed, OutOfLimits}
 use Rattle.lines.proofs.FormLaws.{Framed, framed, unframed, begun, ended-at}
 
@@ -22,11 +22,11 @@ use Rattle.lines.proofs.FormLaws.{Framed, framed, unframed, begun, ende
 
 module _ (line : List ℕ) where
   text : List ℕ
-  text = headText (bookingCountIn line) (linkCountIn line) (wayCountIn line)
+  text = headText (bookingCountIn line) (linkCountIn line) (wayCountIn line) (limitIn line)
 
   not-text : (line ≡ text → ⊥) → Malformed ≡ headOf line
   unfolding headOf isHead text
-  not-text h = rw (same-ne line (headText (bookingCountIn line) (linkCountIn line) (wayCountIn line)) h)
+  not-text h = rw (same-ne line (headText (bookingCountIn line) (linkCountIn line) (wayCountIn line) (limitIn line)) h)
 
   pub no-frame : (b : Bool) → b ≡ isFramed 80 headBytes line → not b ≡ true → Malformed ≡ headOf line
   unfolding text headText columns columnsTo isFramed
@@ -44,34 +44,41 @@ module _ (line : List ℕ) where
   unfolding text headText columns columnsTo
   no-ways f e g = not-text (fault-in 4 9 line f e text g refl)
 
+  pub no-limit : (f : Field) → f ≡ fieldAt 4 13 line → f ≡ Fault → Malformed ≡ headOf line
+  unfolding text headText columns columnsTo
+  no-limit f e g = not-text (fault-in 4 13 line f e text g refl)
+
 -- ---- of this form
 
-module _ (line : List ℕ) (b : Bool) (p : b ≡ isFramed 80 headBytes line) (q : not b ≡ false) (f g h : Field) (n m a : ℕ)
-    (e1 : f ≡ fieldAt 4 1 line) (n1 : f ≡ Number n) (e2 : g ≡ fieldAt 4 5 line) (n2 : g ≡ Number m) (e3 : h ≡ fieldAt 4 9 line) (n3 : h ≡ Number a) where
-  whole : line ≡ headText n m a
+module _ (line : List ℕ) (b : Bool) (p : b ≡ isFramed 80 headBytes line) (q : not b ≡ false) (f g h i : Field) (n m a limit : ℕ)
+    (e1 : f ≡ fieldAt 4 1 line) (n1 : f ≡ Number n) (e2 : g ≡ fieldAt 4 5 line) (n2 : g ≡ Number m) (e3 : h ≡ fieldAt 4 9 line) (n3 : h ≡ Number a)
+    (e4 : i ≡ fieldAt 4 13 line) (n4 : i ≡ Number limit) where
+  whole : line ≡ headText n m a limit
   unfolding headText
   whole =
       let r : Framed 80 headBytes line = framed 80 headBytes line b p q in
       let s : line ≡ 80 ∷ drop 1 line = begun 80 headBytes line (omega arith) r in
       let t : drop 1 line ≡ columns 4 n ++ drop 5 line = field-then 4 1 line f e1 n n1 in
       let u : drop 5 line ≡ columns 4 m ++ drop 9 line = field-then 4 5 line g e2 m n2 in
-      let v : drop 9 line ≡ columns 4 a ++ drop (headBytes - 1) line = field-then 4 9 line h e3 a n3 in
+      let v : drop 9 line ≡ columns 4 a ++ drop 13 line = field-then 4 9 line h e3 a n3 in
+      let o : drop 13 line ≡ columns 4 limit ++ drop (headBytes - 1) line = field-then 4 13 line i e4 limit n4 in
       let w : drop (headBytes - 1) line ≡ 10 ∷ [] = ended-at 80 (headBytes - 1) line r in
-      s ∙ rw (t, u, v, w)
+      s ∙ rw (t, u, v, o, w)
 
-  formed : headOf line ≡ countsOf n m a
+  formed : headOf line ≡ countsOf n m a limit
   unfolding headOf isHead
   formed =
       let x : n ≡ bookingCountIn line = number-is 4 1 line f e1 n n1 in
       let y : m ≡ linkCountIn line = number-is 4 5 line g e2 m n2 in
       let z : a ≡ wayCountIn line = number-is 4 9 line h e3 a n3 in
-      let s : sameBytes line (headText n m a) ≡ true = rw (← whole) (same-refl line) in
-      rw (← x, ← y, ← z, s)
+      let o : limit ≡ limitIn line = number-is 4 13 line i e4 limit n4 in
+      let s : sameBytes line (headText n m a limit) ≡ true = rw (← whole) (same-refl line) in
+      rw (← x, ← y, ← z, ← o, s)
 
-  pub out : (k : Bool) → k ≡ limits n m a → not k ≡ true → OutOfLimits ≡ headOf line
+  pub out : (k : Bool) → k ≡ limits n m a limit → not k ≡ true → OutOfLimits ≡ headOf line
   unfolding countsOf
   out k e r = rw (formed, ← e, not-true k r)
 
-  pub counts : (k : Bool) → k ≡ limits n m a → not k ≡ false → Counts n m a ≡ headOf line
+  pub counts : (k : Bool) → k ≡ limits n m a limit → not k ≡ false → Counts n m a limit ≡ headOf line
   unfolding countsOf
   counts k e r = rw (formed, ← e, not-false k r)

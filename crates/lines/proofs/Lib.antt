@@ -3,7 +3,7 @@ pub mod FormLaws
 pub mod HeadLaws
 pub mod BookingLaws
 pub mod LinkLaws
-pub mod KindsLaws
+pub mod BookingsLaws
 pub mod LinksLaws
 pub mod Lengths
 pub mod RoundTrip

@@ -6,27 +6,27 @@ use native.Mathlib.Omega.{arith}
 use lib.ListN.{take, drop, set}
 use Rattle.plan.specs.Judging.{judgedPlace}
 use Rattle.lines.specs.Form.{bookingBytes, linkBytes}
-use Rattle.lines.specs.Kinds.{afterBooking, kindsOf}
+use Rattle.lines.specs.Bookings.{afterBooking, bookingsOf}
 use Rattle.lines.specs.Booking.{bookingOf}
 use Rattle.lines.specs.Links.{Links, afterLink, linksOf}
 use Rattle.lines.specs.Link.{linkOf}
 use Rattle.lines.specs.declared.Booking.{Booking}
 use Rattle.lines.specs.declared.Booking.the-variants as B
-use Rattle.lines.specs.declared.Kinds.{Kinds}
+use Rattle.lines.specs.declared.Bookings.{Bookings}
 use Rattle.lines.specs.declared.Link.{Link}
 use Rattle.lines.specs.declared.Link.the-variants as L
 
-kinds-next : (b : Booking) (l m : ℕ) (ks : List ℕ) (f : ℕ → Kinds) → l ≤ m → ((k : ℕ) → judgedPlace (f k .judged) ≤ m) → judgedPlace (afterBooking b l ks f .judged) ≤ m
-kinds-next (B.Kind k) l m ks f h n = n k
-kinds-next B.Malformed l m ks f h n = h
-kinds-next B.OutOfSequence l m ks f h n = h
+bookings-next : (b : Booking) (l m : ℕ) (ks ds : List ℕ) (f : ℕ → ℕ → Bookings) → l ≤ m → ((k d : ℕ) → judgedPlace (f k d .judged) ≤ m) → judgedPlace (afterBooking b l ks ds f .judged) ≤ m
+bookings-next (B.Entry k d) l m ks ds f h n = n k d
+bookings-next B.Malformed l m ks ds f h n = h
+bookings-next B.OutOfSequence l m ks ds f h n = h
 
-pub kinds-small : (more i : ℕ) (rest ks : List ℕ) → judgedPlace (kindsOf more i rest ks .judged) ≤ i + more + 1
-unfolding kindsOf
-kinds-small zero i rest ks = omega arith
-kinds-small (suc more) i rest ks =
-    kinds-next (bookingOf (take bookingBytes rest) (i + 1)) (i + 2) (i + suc more + 1) ks _ (omega arith)
-    (λ k. omega (arith, kinds-small more (i + 1) (drop bookingBytes rest) (set ks i k)))
+pub bookings-small : (more i : ℕ) (rest ks ds : List ℕ) → judgedPlace (bookingsOf more i rest ks ds .judged) ≤ i + more + 1
+unfolding bookingsOf
+bookings-small zero i rest ks ds = omega arith
+bookings-small (suc more) i rest ks ds =
+    bookings-next (bookingOf (take bookingBytes rest) (i + 1)) (i + 2) (i + suc more + 1) ks ds _ (omega arith)
+    (λ k d. omega (arith, bookings-small more (i + 1) (drop bookingBytes rest) (set ks i k) (set ds i d)))
 
 links-next : (b : Link) (l m : ℕ) (us vs : List ℕ) (f : ℕ → ℕ → Links) → l ≤ m → ((u v : ℕ) → judgedPlace (f u v .judged) ≤ m) → judgedPlace (afterLink b l us vs f .judged) ≤ m
 links-next (L.Pair u v) l m us vs f h n = n u v

@@ -1,6 +1,6 @@
 -- A line that is written of good values is read as these values, and an accepted line is, to the byte, what is written of what was read.
 -- Assumes nothing.
-use Prim.Native.Nat.{ℕ, _^_, _<_}
+use Prim.Native.Nat.{ℕ, _^_, _<_, _≤_}
 use mathlib.Core.Path.{_≡_, refl, _∙_, sym}
 use mathlib.Core.List.{List, [], _++_, append-nil}
 use mathlib.Core.Bool.{Bool, true, false, _&&_, cond}
@@ -11,10 +11,10 @@ use Rattle.bounded.proofs.Bools.{clash}
 use Rattle.decimal.specs.Decimal.{columns, columnsTo, sameBytes}
 use Rattle.decimal.proofs.Bytes.{same-refl, same-eq}
 use Rattle.decimal.proofs.Fields.{number-in}
-use Rattle.plan.specs.Limits.{isKind, limits, inSequence}
-use Rattle.plan.proofs.LimitLaws.{Limited, limited, sequenced}
-use Rattle.lines.specs.Head.{headText, bookingCountIn, linkCountIn, wayCountIn, isHead, countsOf, headOf}
-use Rattle.lines.specs.Booking.{bookingText, numberIn, kindIn, isBooking, bookingOf}
+use Rattle.plan.specs.Limits.{mostDesks, isKind, isDesk, limits, inSequence}
+use Rattle.plan.proofs.LimitLaws.{Limited, limited, desk-known, sequenced}
+use Rattle.lines.specs.Head.{headText, bookingCountIn, linkCountIn, wayCountIn, limitIn, isHead, countsOf, headOf}
+use Rattle.lines.specs.Booking.{bookingText, numberIn, kindIn, deskIn, isBooking, entryOf, bookingOf}
 use Rattle.lines.specs.Link.{linkText, fromIn, toIn, isLink, pairOf, linkOf}
 use Rattle.lines.specs.declared.Head.{Head}
 use Rattle.lines.specs.declared.Head.the-variants as H
@@ -23,82 +23,102 @@ use Rattle.lines.specs.declared.Link.the-variants as L
 
 -- ---- the head
 
-module _ (n m a : ℕ) where
-  first : n < 10 ^ 4 → bookingCountIn (headText n m a) ≡ n
+module _ (n m a limit : ℕ) where
+  first : n < 10 ^ 4 → bookingCountIn (headText n m a limit) ≡ n
   unfolding headText columns columnsTo
-  first h = number-in 4 1 n (headText n m a) h refl
+  first h = number-in 4 1 n (headText n m a limit) h refl
 
-  second : m < 10 ^ 4 → linkCountIn (headText n m a) ≡ m
+  second : m < 10 ^ 4 → linkCountIn (headText n m a limit) ≡ m
   unfolding headText columns columnsTo
-  second h = number-in 4 5 m (headText n m a) h refl
+  second h = number-in 4 5 m (headText n m a limit) h refl
 
-  third : a < 10 ^ 4 → wayCountIn (headText n m a) ≡ a
+  third : a < 10 ^ 4 → wayCountIn (headText n m a limit) ≡ a
   unfolding headText columns columnsTo
-  third h = number-in 4 9 a (headText n m a) h refl
+  third h = number-in 4 9 a (headText n m a limit) h refl
 
-  pub head-read : limits n m a ≡ true → headOf (headText n m a) ≡ H.Counts n m a
+  -- its limit, whatever follows the line
+  pub its-limit : (rest : List ℕ) → limit < 10 ^ 4 → limitIn (headText n m a limit ++ rest) ≡ limit
+  unfolding headText columns columnsTo
+  its-limit rest h = number-in 4 13 limit (headText n m a limit ++ rest) h refl
+
+  pub head-read : limits n m a limit ≡ true → headOf (headText n m a limit) ≡ H.Counts n m a limit
   unfolding headOf isHead countsOf
   head-read e =
-      let l : Limited n m a = limited n m a e in
-      rw (first (omega arith), second (omega arith), third (omega arith), same-refl (headText n m a), e)
+      let l : Limited n m a limit = limited n m a limit e in
+      let o : limitIn (headText n m a limit) ≡ limit = rw append-nil at (its-limit [] (omega arith)) in
+      rw (first (omega arith), second (omega arith), third (omega arith), o, same-refl (headText n m a limit), e)
 
-pub record HeadIs (line : List ℕ) (n m a : ℕ) : Type 0 where
-  pub text : line ≡ headText n m a
-  pub fit : limits n m a ≡ true
+pub record HeadIs (line : List ℕ) (n m a limit : ℕ) : Type 0 where
+  pub text : line ≡ headText n m a limit
+  pub fit : limits n m a limit ≡ true
 
-pub head-accepted : (line : List ℕ) (n m a : ℕ) → headOf line ≡ H.Counts n m a → HeadIs line n m a
+pub head-accepted : (line : List ℕ) (n m a limit : ℕ) → headOf line ≡ H.Counts n m a limit → HeadIs line n m a limit
 unfolding headOf isHead countsOf
-head-accepted line n m a =
-    go (sameBytes line (headText (bookingCountIn line) (linkCountIn line) (wayCountIn line))) (limits (bookingCountIn line) (linkCountIn line) (wayCountIn line))
-    (same-eq _ _) refl
+head-accepted line n m a limit =
+    go (sameBytes line (headText (bookingCountIn line) (linkCountIn line) (wayCountIn line) (limitIn line)))
+    (limits (bookingCountIn line) (linkCountIn line) (wayCountIn line) (limitIn line)) (same-eq _ _) refl
   where
-    go : (b c : Bool) → (b ≡ true → line ≡ headText (bookingCountIn line) (linkCountIn line) (wayCountIn line))
-        → limits (bookingCountIn line) (linkCountIn line) (wayCountIn line) ≡ c
-        → cond b (cond c (H.Counts (bookingCountIn line) (linkCountIn line) (wayCountIn line)) H.OutOfLimits) H.Malformed ≡ H.Counts n m a → HeadIs line n m a
+    go : (b c : Bool) → (b ≡ true → line ≡ headText (bookingCountIn line) (linkCountIn line) (wayCountIn line) (limitIn line))
+        → limits (bookingCountIn line) (linkCountIn line) (wayCountIn line) (limitIn line) ≡ c
+        → cond b (cond c (H.Counts (bookingCountIn line) (linkCountIn line) (wayCountIn line) (limitIn line)) H.OutOfLimits) H.Malformed ≡ H.Counts n m a limit
+        → HeadIs line n m a limit
     go true true h l e =
         let x : bookingCountIn line ≡ n = cc in
         let y : linkCountIn line ≡ m = cc in
         let z : wayCountIn line ≡ a = cc in
-        record { text = h refl ∙ rw (x, y, z); fit = rw (x, y, z) at l }
+        let o : limitIn line ≡ limit = cc in
+        record { text = h refl ∙ rw (x, y, z, o); fit = rw (x, y, z, o) at l }
     go true false h l e = clash true refl cc
     go false c h l e = clash true refl cc
 
--- the counts of a head that was read are within the limits
-pub head-limits : (line : List ℕ) (h : Head) (n m a : ℕ) → h ≡ headOf line → h ≡ H.Counts n m a → Limited n m a
-head-limits line h n m a e g = limited n m a (head-accepted line n m a (sym e ∙ g) .fit)
+-- the numbers of a head that was read are within the limits
+pub head-limits : (line : List ℕ) (h : Head) (n m a limit : ℕ) → h ≡ headOf line → h ≡ H.Counts n m a limit → Limited n m a limit
+head-limits line h n m a limit e g = limited n m a limit (head-accepted line n m a limit (sym e ∙ g) .fit)
 
 -- ---- a booking
 
-its-number : (x k : ℕ) → x < 10 ^ 4 → numberIn (bookingText x k) ≡ x
+its-number : (x k d : ℕ) → x < 10 ^ 4 → numberIn (bookingText x k d) ≡ x
 unfolding bookingText columns columnsTo
-its-number x k h = number-in 4 1 x (bookingText x k) h refl
+its-number x k d h = number-in 4 1 x (bookingText x k d) h refl
 
--- its kind, whatever follows the line
-pub its-kind : (x k : ℕ) (rest : List ℕ) → kindIn (bookingText x k ++ rest) ≡ k
+-- its kind and its desk, whatever follows the line
+pub its-kind : (x k d : ℕ) (rest : List ℕ) → kindIn (bookingText x k d ++ rest) ≡ k
 unfolding kindIn bookingText columns columnsTo
-its-kind x k rest = refl
+its-kind x k d rest = refl
 
-pub booking-read : (x k : ℕ) → x < 10 ^ 4 → isKind k ≡ true → bookingOf (bookingText x k) x ≡ B.Kind k
-unfolding bookingOf isBooking
-booking-read x k h q = rw (its-number x k h, rw append-nil at (its-kind x k []), same-refl (bookingText x k), q, eq-eqb x x refl)
+pub its-desk : (x k d : ℕ) (rest : List ℕ) → d < 10 ^ 4 → deskIn (bookingText x k d ++ rest) ≡ d
+unfolding bookingText columns columnsTo
+its-desk x k d rest h = number-in 4 7 d (bookingText x k d ++ rest) h refl
 
-pub record BookingIs (line : List ℕ) (x k : ℕ) : Type 0 where
-  pub text : line ≡ bookingText x k
+pub booking-read : (x k d : ℕ) → x < 10 ^ 4 → isKind k ≡ true → isDesk d ≡ true → bookingOf (bookingText x k d) x ≡ B.Entry k d
+unfolding bookingOf isBooking entryOf
+booking-read x k d h q r =
+    let l : (1 ≤ d) × (d ≤ mostDesks) = desk-known d r in
+    let o : deskIn (bookingText x k d) ≡ d = rw append-nil at (its-desk x k d [] (omega arith)) in
+    rw (its-number x k d h, rw append-nil at (its-kind x k d []), o, same-refl (bookingText x k d), q, eq-eqb x x refl, r)
+
+pub record BookingIs (line : List ℕ) (x k d : ℕ) : Type 0 where
+  pub text : line ≡ bookingText x k d
   pub known : isKind k ≡ true
+  pub desk : isDesk d ≡ true
 
-pub booking-accepted : (line : List ℕ) (x k : ℕ) → bookingOf line x ≡ B.Kind k → BookingIs line x k
-unfolding bookingOf isBooking
-booking-accepted line x k =
-    go (sameBytes line (bookingText (numberIn line) (kindIn line))) (isKind (kindIn line)) (eqb (numberIn line) x) (same-eq _ _) refl (eqb-true _ _)
+pub booking-accepted : (line : List ℕ) (x k d : ℕ) → bookingOf line x ≡ B.Entry k d → BookingIs line x k d
+unfolding bookingOf isBooking entryOf
+booking-accepted line x k d =
+    go (sameBytes line (bookingText (numberIn line) (kindIn line) (deskIn line))) (isKind (kindIn line)) (eqb (numberIn line) x) (isDesk (deskIn line))
+    (same-eq _ _) refl (eqb-true _ _) refl
   where
-    go : (b c d : Bool) → (b ≡ true → line ≡ bookingText (numberIn line) (kindIn line)) → isKind (kindIn line) ≡ c → (d ≡ true → numberIn line ≡ x)
-        → cond (b && c) (cond d (B.Kind (kindIn line)) B.OutOfSequence) B.Malformed ≡ B.Kind k → BookingIs line x k
-    go true true true h l g e =
+    go : (b c f g : Bool) → (b ≡ true → line ≡ bookingText (numberIn line) (kindIn line) (deskIn line)) → isKind (kindIn line) ≡ c
+        → (f ≡ true → numberIn line ≡ x) → isDesk (deskIn line) ≡ g
+        → cond (b && c) (cond (f && g) (B.Entry (kindIn line) (deskIn line)) B.OutOfSequence) B.Malformed ≡ B.Entry k d → BookingIs line x k d
+    go true true true true h l n o e =
         let y : kindIn line ≡ k = cc in
-        record { text = h refl ∙ rw (g refl, y); known = rw y at l }
-    go true true false h l g e = clash true refl cc
-    go true false d h l g e = clash true refl cc
-    go false c d h l g e = clash true refl cc
+        let z : deskIn line ≡ d = cc in
+        record { text = h refl ∙ rw (n refl, y, z); known = rw y at l; desk = rw z at o }
+    go true true true false h l n o e = clash true refl cc
+    go true true false g h l n o e = clash true refl cc
+    go true false f g h l n o e = clash true refl cc
+    go false c f g h l n o e = clash true refl cc
 
 -- ---- a link
 

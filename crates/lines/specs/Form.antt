@@ -9,10 +9,10 @@ use lib.Dec.{eqb}
 
 -- the bytes of the head, of a booking's line and of a link's line, line feeds included
 abbrev pub headBytes : ℕ
-headBytes = 14
+headBytes = 18
 
 abbrev pub bookingBytes : ℕ
-bookingBytes = 8
+bookingBytes = 12
 
 abbrev pub linkBytes : ℕ
 linkBytes = 10

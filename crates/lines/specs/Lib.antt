@@ -3,5 +3,5 @@ pub mod Form
 pub mod Head
 pub mod Booking
 pub mod Link
-pub mod Kinds
+pub mod Bookings
 pub mod Links

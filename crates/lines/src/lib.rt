@@ -9,28 +9,28 @@ ghost use Rattle.lines.specs.Form.{linksPlace, waysPlace, isFramed};
 ghost use Rattle.lines.specs.Head.{headOf};
 ghost use Rattle.lines.specs.Booking.{bookingOf};
 ghost use Rattle.lines.specs.Link.{linkOf};
-ghost use Rattle.lines.specs.Kinds.{kindsOf, noKinds};
+ghost use Rattle.lines.specs.Bookings.{bookingsOf, noBookings};
 ghost use Rattle.lines.specs.Links.{linksOf, noLinks};
 
 // How many bytes the head has, its line feed included.
-pub const HEAD_BYTES: usize = 14;
+pub const HEAD_BYTES: usize = 18;
 
 // How many bytes a booking's line has.
-pub const BOOKING_BYTES: usize = 8;
+pub const BOOKING_BYTES: usize = 12;
 
 // How many bytes a link's line has.
 pub const LINK_BYTES: usize = 10;
 
-// What the head line holds: the counts of bookings, links and ways, or why it is refused.
+// What the head line holds: the counts of bookings, links and ways and the limit of open matters, or why it is refused.
 pub enum Head {
-    Counts(usize, usize, usize),
+    Counts(usize, usize, usize, usize),
     Malformed,
     OutOfLimits,
 }
 
-// What a booking's line holds: the letter of its kind, or why it is refused.
+// What a booking's line holds: the letter of its kind and the number of its desk, or why it is refused.
 pub enum Booking {
-    Kind(u8),
+    Entry(u8, u8),
     Malformed,
     OutOfSequence,
 }
@@ -42,10 +42,11 @@ pub enum Link {
     OutOfSequence,
 }
 
-// The kinds that the lines of the bookings give; up to the refused line, if one is.
-pub struct Kinds {
+// The kinds and desks that the lines of the bookings give; up to the refused line, if one is.
+pub struct Bookings {
     pub judged: Judged,
     pub kind: [u8; 64],
+    pub desk: [u8; 64],
 }
 
 // Where the links of a sheet begin, after n bookings.
@@ -94,10 +95,13 @@ pub fn read_head(line: &[u8]) -> Head
     let Field::Number(a) = decimal::field_at(line, 9, 4) else {
         return Head::Malformed;
     };
-    if !plan::in_limits(n, m, a) {
+    let Field::Number(limit) = decimal::field_at(line, 13, 4) else {
+        return Head::Malformed;
+    };
+    if !plan::in_limits(n, m, a, limit) {
         return Head::OutOfLimits;
     }
-    Head::Counts(n, m, a)
+    Head::Counts(n, m, a, limit)
 }
 
 // Reads the line of booking number x.
@@ -117,10 +121,16 @@ pub fn read_booking(line: &[u8], x: usize) -> Booking
     if !plan::known_kind(k) {
         return Booking::Malformed;
     }
+    let Field::Number(d) = decimal::field_at(line, 7, 4) else {
+        return Booking::Malformed;
+    };
     if y != x {
         return Booking::OutOfSequence;
     }
-    Booking::Kind(k)
+    if !plan::known_desk(d) {
+        return Booking::OutOfSequence;
+    }
+    Booking::Entry(k, d as u8)
 }
 
 // Reads a link's line in a plan of n bookings, after the link from last_from to last_to.
@@ -144,36 +154,41 @@ pub fn read_link(line: &[u8], n: usize, last_from: usize, last_to: usize) -> Lin
 }
 
 // Reads the lines of the bookings 1 to n, which start at at.
-pub fn read_kinds(s: &[u8], at: usize, n: usize) -> Kinds
+pub fn read_bookings(s: &[u8], at: usize, n: usize) -> Bookings
     requires { ⌜ (n ≤ mostBookings) × (at < 65536) ⌝ }
-    ensures { λ r. ⌜ r ≡ kindsOf n 0 (drop at (now (s .entry))) noKinds ⌝ }
+    ensures { λ r. ⌜ r ≡ bookingsOf n 0 (drop at (now (s .entry))) noBookings noBookings ⌝ }
 {
     let mut kind = [0u8; 64];
+    let mut desk = [0u8; 64];
     let mut i = 0;
     while i < n {
         let line = decimal::part(s, at + BOOKING_BYTES * i, BOOKING_BYTES);
         match read_booking(line, i + 1) {
-            Booking::Kind(k) => {
+            Booking::Entry(k, d) => {
                 kind[i] = k;
+                desk[i] = d;
             }
             Booking::Malformed => {
-                return Kinds {
+                return Bookings {
                     judged: Judged::Form(i + 2),
                     kind,
+                    desk,
                 };
             }
             Booking::OutOfSequence => {
-                return Kinds {
+                return Bookings {
                     judged: Judged::Sequence(i + 2),
                     kind,
+                    desk,
                 };
             }
         }
         i += 1;
     }
-    Kinds {
+    Bookings {
         judged: Judged::Fine,
         kind,
+        desk,
     }
 }
 

@@ -16,6 +16,7 @@ pub record Shape (g : Network) : Type 0 where
   pub bookings : g .n ≤ 64
   pub ways : 1 ≤ g .a
   pub few : g .a ≤ 16
+  pub some-matter : 1 ≤ g .limit
   pub pre-n : (u v : ℕ) → pre g u v ≡ true → (u < g .n) × (v < g .n)
   pub way-n : (w b : ℕ) → w ≤ g .a → inWay g w b ≡ true → b < g .n
   pub transitive : (u v w : ℕ) → pre g u v ≡ true → pre g v w ≡ true → pre g u w ≡ true

@@ -3,3 +3,4 @@ pub mod Facts
 pub mod Plans
 pub mod Letters
 pub mod Links
+pub mod Desks

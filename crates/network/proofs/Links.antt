@@ -21,7 +21,7 @@ use Rattle.precedence.specs.Precedence.{closureOf, EmptyFrom}
 use Rattle.precedence.proofs.Four.{empty-table}
 use Rattle.plan.specs.declared.Plan.{Plan}
 use Rattle.network.specs.declared.Network.{Network}
-use Rattle.network.specs.FromPlan.{joins, linked, directAt, directOf, isFirm, isExposed, ofKind, networkOf, Ends}
+use Rattle.network.specs.FromPlan.{joins, linked, directAt, directOf, isFirm, isExposed, ofKind, desksOf, networkOf, Ends}
 
 module _ (us vs : List ℕ) where
   pub direct-none : (v : ℕ) → v < 64 → getD (replicate 64 0) v 0 ≡ directAt us vs 0 v
@@ -77,8 +77,8 @@ module _ (us vs : List ℕ) where
     to = λ i l. (e .to i l .0, omega (arith, e .to i l .1));
   }
 
-pub network-is : (p : Plan) (d b : List ℕ) (f e : ℕ) → d ≡ directOf (p .from) (p .to) (p .m) → b ≡ closureOf d
-    → f ≡ gather (ofKind isFirm (p .kind)) (p .n) → e ≡ gather (ofKind isExposed (p .kind)) (p .n)
-    → _≡_ {A = Network} (record { n = p .n; a = p .a; way = p .way; before = b; firm = f; exposed = e }) (networkOf p)
+pub network-is : (p : Plan) (d b t : List ℕ) (f e : ℕ) → d ≡ directOf (p .from) (p .to) (p .m) → b ≡ closureOf d
+    → f ≡ gather (ofKind isFirm (p .kind)) (p .n) → e ≡ gather (ofKind isExposed (p .kind)) (p .n) → t ≡ desksOf (p .desk) (p .n)
+    → _≡_ {A = Network} (record { n = p .n; a = p .a; way = p .way; before = b; firm = f; exposed = e; desk = t; limit = p .limit }) (networkOf p)
 unfolding networkOf
-network-is p d b f e hd hb hf he = rw (hf, he, hb, hd)
+network-is p d b t f e hd hb hf he ht = rw (hf, he, hb, hd, ht)

@@ -19,15 +19,16 @@ use Rattle.precedence.specs.Precedence as Chains
 use Rattle.precedence.proofs.Chains.{precedes-trans, closure-chain, chain-closure, precedes-below}
 use Rattle.plan.specs.declared.Plan.{Plan}
 use Rattle.plan.proofs.Valid.{Valid}
-use Rattle.network.specs.FromPlan.{joins, linked, directAt, directOf, networkOf, Ends}
+use Rattle.network.specs.FromPlan.{joins, linked, directAt, directOf, networkOf, Ends, Seated}
 use Rattle.network.specs.Network.{wayOf, inWay, before, pre}
 use Rattle.network.proofs.Facts.{Shape, some-way}
 
-pub valid-fits : (p : Plan) → Valid p → (p .n ≤ 64) × Ends (p .n) (p .from) (p .to) (p .m)
+pub valid-fits : (p : Plan) → Valid p → (p .n ≤ 64) × Ends (p .n) (p .from) (p .to) (p .m) × Seated (p .n) (p .desk)
 valid-fits p v =
     let h = v .counts .bookings in (
       h,
       record { few = v .counts .links; from = v .starts; to = v .ends },
+      record { desk = v .desks },
     )
 
 module _ (p : Plan) (v : Valid p) where
@@ -60,6 +61,7 @@ module _ (p : Plan) (v : Valid p) where
         bookings = v .counts .bookings;
         ways = v .counts .some-way;
         few = v .counts .ways;
+        some-matter = v .counts .some-matter;
         pre-n = λ u w e. precedes-below direct (p .n) low (closure-chain direct u w e);
         way-n = way-low;
         transitive = λ u w x e f. chain-closure direct u x (precedes-trans (closure-chain direct u w e) (closure-chain direct w x f));

@@ -1,4 +1,4 @@
--- The network of a plan: its ways, its kinds as two sets, and its links closed to chains.
+-- The network of a plan: its ways, its kinds as two sets, its links closed to chains, and its desks as eight sets.
 -- Assumes nothing.
 use mathlib.Core.Bool.{Bool, _&&_, _||_}
 use mathlib.Core.List.{List}
@@ -8,7 +8,7 @@ use lib.ListN.{getD}
 use Rattle.bounded.specs.Bounded.{any, table}
 use Rattle.sets.specs.Sets.{gather}
 use Rattle.precedence.specs.Precedence.{closureOf}
-use Rattle.plan.specs.Limits.{C, P, R, D}
+use Rattle.plan.specs.Limits.{mostDesks, C, P, R, D}
 use Rattle.plan.specs.declared.Plan.{Plan}
 use Rattle.network.specs.declared.Network.{Network}
 
@@ -51,6 +51,17 @@ directAt us vs m v = gather (linked us vs m v) 64
 unfoldable pub directOf : List ℕ → List ℕ → ℕ → List ℕ
 directOf us vs m = table (directAt us vs m) 64
 
+-- booking b is at desk d; desks go by index from 0 here, as bookings do
+unfoldable pub atDesk : List ℕ → ℕ → ℕ → Bool
+atDesk ds d b = eqb (getD ds b 0) (suc d)
+
+-- the bookings below n of desk d, and of each desk
+unfoldable pub deskAt : List ℕ → ℕ → ℕ → ℕ
+deskAt ds n d = gather (atDesk ds d) n
+
+unfoldable pub desksOf : List ℕ → ℕ → List ℕ
+desksOf ds n = table (deskAt ds n) mostDesks
+
 unfoldable pub networkOf : Plan → Network
 networkOf p = record {
   n = p .n;
@@ -59,6 +70,8 @@ networkOf p = record {
   before = closureOf (directOf (p .from) (p .to) (p .m));
   firm = gather (ofKind isFirm (p .kind)) (p .n);
   exposed = gather (ofKind isExposed (p .kind)) (p .n);
+  desk = desksOf (p .desk) (p .n);
+  limit = p .limit;
 }
 
 -- what the work on a plan's links relies on: the first m links join numbers from 1 to n
@@ -66,3 +79,7 @@ pub record Ends (n : ℕ) (us vs : List ℕ) (m : ℕ) : Type 0 where
   pub few : m ≤ 512
   pub from : (i : ℕ) → i < m → (1 ≤ getD us i 0) × (getD us i 0 ≤ n)
   pub to : (i : ℕ) → i < m → (1 ≤ getD vs i 0) × (getD vs i 0 ≤ n)
+
+-- what the work on its desks relies on: each of the first n bookings has one
+pub record Seated (n : ℕ) (ds : List ℕ) : Type 0 where
+  pub desk : (b : ℕ) → b < n → (1 ≤ getD ds b 0) × (getD ds b 0 ≤ mostDesks)

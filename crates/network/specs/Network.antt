@@ -22,6 +22,10 @@ before g v = getD (g .before) v 0
 unfoldable pub pre : Network → ℕ → ℕ → Bool
 pre g u v = member (before g v) u
 
+-- the bookings of desk d; desks go by index from 0
+unfoldable pub deskOf : Network → ℕ → ℕ
+deskOf g d = getD (g .desk) d 0
+
 -- ---- the four kinds: C is exposed alone, P is both, R is firm alone, D is neither
 
 -- P or R: once held it stays. All other bookings, C and D, can be given back

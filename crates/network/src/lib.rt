@@ -4,10 +4,11 @@ ghost use mathlib.Core.Path.{_≡_};
 ghost use Prim.Native.Nat.{_≤_};
 ghost use Rattle.sets.specs.Sets.{gather};
 ghost use Rattle.plan.specs.Outline.{planOf};
-ghost use Rattle.network.specs.FromPlan.{oneOf, isFirm, isExposed, ofKind, directOf, networkOf, Ends};
+ghost use Rattle.network.specs.FromPlan.{oneOf, isFirm, isExposed, ofKind, directOf, desksOf, networkOf, Ends, Seated};
 
 // A plan as the rules see it. Booking number b is index b - 1 and bit b - 1 of every set; way[k] is way number k + 1.
-// before[v] has all bookings that precede v, by one link or by a chain of links.
+// before[v] has all bookings that precede v, by one link or by a chain of links. desk[d] has the bookings of desk number d + 1, each of
+// which may have as many matters open as the limit says.
 pub struct Network {
     pub n: usize,
     pub a: usize,
@@ -15,6 +16,8 @@ pub struct Network {
     pub before: [u64; 64],
     pub firm: u64,
     pub exposed: u64,
+    pub desk: [u64; 8],
+    pub limit: usize,
 }
 
 // The bookings that stay once they are held, and those that can be refused for good.
@@ -66,9 +69,22 @@ fn direct(from: &[u8; 512], to: &[u8; 512], m: usize) -> [u64; 64]
     d
 }
 
+// The bookings below n by their desks.
+fn desks_of(desk: &[u8; 64], n: usize) -> [u64; 8]
+    requires { ⌜ (n ≤ 64) × Seated n (now desk) ⌝ }
+    ensures { λ r. ⌜ r ≡ desksOf (now (desk .entry)) n ⌝ }
+{
+    let mut at = [0u64; 8];
+    for b in 0..n {
+        let d = desk[b] as usize - 1;
+        at[d] = at[d] | sets::bit(b);
+    }
+    at
+}
+
 // What the rules look at in a plan, whose links stand beside it.
 pub fn network_of(o: Outline, from: &[u8; 512], to: &[u8; 512]) -> Network
-    requires { ⌜ (o .n ≤ 64) × Ends (o .n) (now from) (now to) (o .m) ⌝ }
+    requires { ⌜ (o .n ≤ 64) × Ends (o .n) (now from) (now to) (o .m) × Seated (o .n) (o .desk) ⌝ }
     ensures { λ r. ⌜ r ≡ networkOf (planOf o (now (from .entry)) (now (to .entry))) ⌝ }
 {
     let kind = o.kind;
@@ -76,6 +92,8 @@ pub fn network_of(o: Outline, from: &[u8; 512], to: &[u8; 512]) -> Network
     let links = direct(from, to, o.m);
     let before = precedence::closure(links, o.n);
     let kinds = kinds_of(&kind, o.n);
+    let desks = o.desk;
+    let desk = desks_of(&desks, o.n);
     Network {
         n: o.n,
         a: o.a,
@@ -83,5 +101,7 @@ pub fn network_of(o: Outline, from: &[u8; 512], to: &[u8; 512]) -> Network
         before,
         firm: kinds.firm,
         exposed: kinds.exposed,
+        desk,
+        limit: o.limit,
     }
 }

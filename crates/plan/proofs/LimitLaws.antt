@@ -8,7 +8,7 @@ use native.Mathlib.Omega.{arith}
 use lib.Dec.{eqb, leb, ltb}
 use borrow.Author.Tests.{leb-true, le-leb, eqb-true, ltb-true}
 use Rattle.bounded.proofs.Bools.{and-l, and-r, _&_, or-cases, went}
-use Rattle.plan.specs.Limits.{mostBookings, mostLinks, mostWays, C, P, R, D, isKind, within, counted, limits, rises, inSequence}
+use Rattle.plan.specs.Limits.{mostBookings, mostLinks, mostWays, mostMatters, mostDesks, C, P, R, D, isKind, isDesk, within, counted, limits, rises, inSequence}
 
 -- ---- from lo to hi
 
@@ -33,18 +33,22 @@ within-hi-by lo x hi b e q = within-hi lo x hi (went e q)
 
 -- ---- the counts
 
-pub record Limited (n m a : ℕ) : Type 0 where
+pub record Limited (n m a limit : ℕ) : Type 0 where
   pub some-booking : 1 ≤ n
   pub bookings : n ≤ mostBookings
   pub links : m ≤ mostLinks
   pub some-way : 1 ≤ a
   pub ways : a ≤ mostWays
+  pub some-matter : 1 ≤ limit
+  pub matters : limit ≤ mostMatters
 
-pub limited : (n m a : ℕ) → limits n m a ≡ true → Limited n m a
+pub limited : (n m a limit : ℕ) → limits n m a limit ≡ true → Limited n m a limit
 unfolding limits counted
-limited n m a e =
-    let l : within 1 n mostBookings ≡ true = and-l (within 1 n mostBookings) _ e in
-    let r : within 0 m mostLinks && within 1 a mostWays ≡ true = and-r (within 1 n mostBookings) _ e in
+limited n m a limit e =
+    let c : within 1 n mostBookings && (within 0 m mostLinks && within 1 a mostWays) ≡ true = and-l _ (within 1 limit mostMatters) e in
+    let o : within 1 limit mostMatters ≡ true = and-r (counted mostBookings mostLinks mostWays n m a) _ e in
+    let l : within 1 n mostBookings ≡ true = and-l (within 1 n mostBookings) _ c in
+    let r : within 0 m mostLinks && within 1 a mostWays ≡ true = and-r (within 1 n mostBookings) _ c in
     let w : within 1 a mostWays ≡ true = and-r (within 0 m mostLinks) _ r in
     record {
       some-booking = within-lo 1 n mostBookings l;
@@ -52,18 +56,27 @@ limited n m a e =
       links = within-hi 0 m mostLinks (and-l (within 0 m mostLinks) _ r);
       some-way = within-lo 1 a mostWays w;
       ways = within-hi 1 a mostWays w;
+      some-matter = within-lo 1 limit mostMatters o;
+      matters = within-hi 1 limit mostMatters o;
     }
 
--- past `if !in_limits(n, m, a) { return .. }`
-pub limited-by : (n m a : ℕ) (x : Bool) → x ≡ limits n m a → not x ≡ false → Limited n m a
-limited-by n m a x e q = limited n m a (went e q)
+-- past `if !in_limits(n, m, a, limit) { return .. }`
+pub limited-by : (n m a limit : ℕ) (x : Bool) → x ≡ limits n m a limit → not x ≡ false → Limited n m a limit
+limited-by n m a limit x e q = limited n m a limit (went e q)
 
-pub limited-i : (n m a : ℕ) → Limited n m a → limits n m a ≡ true
+pub limited-i : (n m a limit : ℕ) → Limited n m a limit → limits n m a limit ≡ true
 unfolding limits counted
-limited-i n m a l =
-    within-i 1 n mostBookings (l .some-booking) (l .bookings)
+limited-i n m a limit l =
+    (within-i 1 n mostBookings (l .some-booking) (l .bookings)
     & within-i 0 m mostLinks (omega arith) (l .links)
-    & within-i 1 a mostWays (l .some-way) (l .ways)
+    & within-i 1 a mostWays (l .some-way) (l .ways))
+    & within-i 1 limit mostMatters (l .some-matter) (l .matters)
+
+-- ---- desks
+
+pub desk-known : (d : ℕ) → isDesk d ≡ true → (1 ≤ d) × (d ≤ mostDesks)
+unfolding isDesk
+desk-known d e = (within-lo 1 d mostDesks e, within-hi 1 d mostDesks e)
 
 -- ---- kinds
 

@@ -15,10 +15,10 @@ use Rattle.plan.specs.declared.Judged.{Judged}
 use Rattle.plan.specs.declared.Judged.the-variants as J
 use Rattle.plan.proofs.LimitLaws.{Limited, limited}
 
--- a record whose counts fit has its three counts within the limits
-pub fit-limited : (p : Plan) → countsFit p ≡ true → Limited (p .n) (p .m) (p .a)
+-- a record whose counts fit has its counts and its limit of matters within the limits
+pub fit-limited : (p : Plan) → countsFit p ≡ true → Limited (p .n) (p .m) (p .a) (p .limit)
 unfolding countsFit
-fit-limited p e = limited (p .n) (p .m) (p .a) (and-l (limits (p .n) (p .m) (p .a)) _ e)
+fit-limited p e = limited (p .n) (p .m) (p .a) (p .limit) (and-l (limits (p .n) (p .m) (p .a) (p .limit)) _ e)
 
 module _ (p : Plan) (x : Bool) (e : x ≡ countsFit p) where
   pub counts-out : not x ≡ true → Count ≡ recordOf p
@@ -26,7 +26,7 @@ module _ (p : Plan) (x : Bool) (e : x ≡ countsFit p) where
   counts-out q = rw (← e, not-true x q)
 
   module _ (q : not x ≡ false) where
-    pub counts-in : Limited (p .n) (p .m) (p .a)
+    pub counts-in : Limited (p .n) (p .m) (p .a) (p .limit)
     counts-in = fit-limited p (went e q)
 
     module _ (y : Bool) (f : y ≡ entriesFit p) where

@@ -14,17 +14,18 @@ use Rattle.bounded.proofs.Bools.{clash, and-l, and-r, _&_}
 use Rattle.bounded.proofs.Tests.{all-i, all-e}
 use Rattle.sets.specs.Sets.{sizeOf}
 use Rattle.sets.proofs.Gather.{size-le}
-use Rattle.plan.specs.Limits.{isKind, limits}
-use Rattle.plan.specs.Record.{kindAt, linkAt, countAt, withinAt, countsFit, entriesFit, recordOf}
+use Rattle.plan.specs.Limits.{mostDesks, isKind, limits}
+use Rattle.plan.specs.Record.{bookingAt, linkAt, countAt, withinAt, countsFit, entriesFit, recordOf}
 use Rattle.plan.specs.declared.Plan.{Plan}
 use Rattle.plan.specs.declared.Judgement.the-variants.{Fine, Count, Sequence}
 use Rattle.plan.specs.declared.Judgement.{Judgement}
-use Rattle.plan.proofs.LimitLaws.{Limited, limited-i, within-lo, within-i, Sequenced, sequenced}
+use Rattle.plan.proofs.LimitLaws.{Limited, limited-i, within-lo, within-i, desk-known, Sequenced, sequenced}
 use Rattle.plan.proofs.RecordLaws.{fit-limited}
 
 pub record Valid (p : Plan) : Type 0 where
-  pub counts : Limited (p .n) (p .m) (p .a)
+  pub counts : Limited (p .n) (p .m) (p .a) (p .limit)
   pub kinds : (b : ℕ) → b < p .n → isKind (getD (p .kind) b 0) ≡ true
+  pub desks : (b : ℕ) → b < p .n → (1 ≤ getD (p .desk) b 0) × (getD (p .desk) b 0 ≤ mostDesks)
   pub starts : (i : ℕ) → i < p .m → (1 ≤ getD (p .from) i 0) × (getD (p .from) i 0 ≤ p .n)
   pub ends : (i : ℕ) → i < p .m → (1 ≤ getD (p .to) i 0) × (getD (p .to) i 0 ≤ p .n)
   pub rising : (i : ℕ) → i + 1 < p .m
@@ -52,13 +53,13 @@ fine-entries p = go (countsFit p) (entriesFit p)
     go false y e = clash true refl (cc)
 
 module _ (p : Plan) (e : entriesFit p ≡ true) where
-  pub kind-fits : (b : ℕ) → b < p .n → kindAt (p .kind) b ≡ true
+  pub booking-fits : (b : ℕ) → b < p .n → bookingAt (p .kind) (p .desk) b ≡ true
   unfolding entriesFit
-  kind-fits = all-e (kindAt (p .kind)) (p .n) (and-l (all (kindAt (p .kind)) (p .n)) _ e)
+  booking-fits = all-e (bookingAt (p .kind) (p .desk)) (p .n) (and-l (all (bookingAt (p .kind) (p .desk)) (p .n)) _ e)
 
   others-fit : all (linkAt (p .n) (p .from) (p .to)) (p .m) && all (withinAt (p .n) (p .way)) (p .a) ≡ true
   unfolding entriesFit
-  others-fit = and-r (all (kindAt (p .kind)) (p .n)) _ e
+  others-fit = and-r (all (bookingAt (p .kind) (p .desk)) (p .n)) _ e
 
   pub link-fits : (i : ℕ) → i < p .m → linkAt (p .n) (p .from) (p .to) i ≡ true
   link-fits = all-e (linkAt (p .n) (p .from) (p .to)) (p .m) (and-l (all (linkAt (p .n) (p .from) (p .to)) (p .m)) _ others-fit)
@@ -73,13 +74,14 @@ module _ (p : Plan) (c : countsFit p ≡ true) (e : entriesFit p ≡ true) where
 
   count-fits : (k : ℕ) → k < p .a → countAt (p .n) (p .way) k ≡ true
   unfolding countsFit
-  count-fits = all-e (countAt (p .n) (p .way)) (p .a) (and-r (limits (p .n) (p .m) (p .a)) _ c)
+  count-fits = all-e (countAt (p .n) (p .way)) (p .a) (and-r (limits (p .n) (p .m) (p .a) (p .limit)) _ c)
 
   facts : Valid p
-  unfolding kindAt withinAt countAt
+  unfolding bookingAt withinAt countAt
   facts = record {
     counts = fit-limited p c;
-    kinds = kind-fits p e;
+    kinds = λ b h. and-l (isKind (getD (p .kind) b 0)) _ (booking-fits p e b h);
+    desks = λ b h. desk-known (getD (p .desk) b 0) (and-r (isKind (getD (p .kind) b 0)) _ (booking-fits p e b h));
     starts = λ i h. link-fact i h .start;
     ends = λ i h. link-fact i h .end;
     rising = λ i h. rw add-one (link-fact (suc i) (omega arith) .rising);
@@ -91,25 +93,25 @@ pub valid : (p : Plan) → recordOf p ≡ Fine → Valid p
 valid p e = facts p (fine-counts p e) (fine-entries p e)
 
 -- the counts of a record that was judged fine
-pub fine-limited : (p : Plan) (r : Judgement) → r ≡ recordOf p → r ≡ Fine → Limited (p .n) (p .m) (p .a)
+pub fine-limited : (p : Plan) (r : Judgement) → r ≡ recordOf p → r ≡ Fine → Limited (p .n) (p .m) (p .a) (p .limit)
 fine-limited p r e g = valid p (sym e ∙ g) .counts
 
 -- ---- and back
 
-module _ (p : Plan) (l : Limited (p .n) (p .m) (p .a)) (kinds : (b : ℕ) → b < p .n → kindAt (p .kind) b ≡ true)
+module _ (p : Plan) (l : Limited (p .n) (p .m) (p .a) (p .limit)) (bookings : (b : ℕ) → b < p .n → bookingAt (p .kind) (p .desk) b ≡ true)
     (links : (i : ℕ) → i < p .m → linkAt (p .n) (p .from) (p .to) i ≡ true) (sets : (k : ℕ) → k < p .a → getD (p .way) k 0 < 2 ^ p .n)
     (taken : (k : ℕ) → k < p .a → 1 ≤ sizeOf (getD (p .way) k 0)) where
   counts-fit : countsFit p ≡ true
   unfolding countsFit countAt
   counts-fit =
-      limited-i (p .n) (p .m) (p .a) l
+      limited-i (p .n) (p .m) (p .a) (p .limit) l
       & all-i (countAt (p .n) (p .way)) (p .a)
       (λ k h. within-i 1 (sizeOf (getD (p .way) k 0)) (p .n) (taken k h) (size-le (p .n) (getD (p .way) k 0) (l .bookings) (sets k h)))
 
   entries-fit : entriesFit p ≡ true
   unfolding entriesFit withinAt
   entries-fit =
-      all-i (kindAt (p .kind)) (p .n) kinds
+      all-i (bookingAt (p .kind) (p .desk)) (p .n) bookings
       & all-i (linkAt (p .n) (p .from) (p .to)) (p .m) links
       & all-i (withinAt (p .n) (p .way)) (p .a) (λ k h. lt-ltb (getD (p .way) k 0) (2 ^ p .n) (sets k h))
 

@@ -1,4 +1,5 @@
--- The limits of a plan: how many bookings, links and ways it has, its letters of kinds, and the sequence of its links.
+-- The limits of a plan: how many bookings, links and ways it has and how much a desk takes on, its letters of kinds, its desks, and the sequence
+-- of its links.
 -- Assumes nothing.
 use mathlib.Core.Bool.{Bool, _&&_, _||_}
 use Prim.Native.Nat.{ℕ}
@@ -14,6 +15,13 @@ mostLinks = 512
 
 abbrev pub mostWays : ℕ
 mostWays = 16
+
+-- the greatest limit of open matters that a plan may set its desks, and how many desks there are
+abbrev pub mostMatters : ℕ
+mostMatters = 64
+
+abbrev pub mostDesks : ℕ
+mostDesks = 8
 
 -- the letters of the kinds: returnable, pivot, repeatable, and both repeatable and returnable
 abbrev pub C : ℕ
@@ -39,9 +47,13 @@ within lo x hi = leb lo x && leb x hi
 unfoldable pub counted : ℕ → ℕ → ℕ → ℕ → ℕ → ℕ → Bool
 counted bs ls ws n m a = within 1 n bs && (within 0 m ls && within 1 a ws)
 
--- the counts of a plan are within the limits
-unfoldable pub limits : ℕ → ℕ → ℕ → Bool
-limits n m a = counted mostBookings mostLinks mostWays n m a
+-- the counts of a plan, and what it lets each desk have open, are within the limits
+unfoldable pub limits : ℕ → ℕ → ℕ → ℕ → Bool
+limits n m a limit = counted mostBookings mostLinks mostWays n m a && within 1 limit mostMatters
+
+-- d is the number of a desk
+unfoldable pub isDesk : ℕ → Bool
+isDesk d = within 1 d mostDesks
 
 -- the link from u to v comes after the link from lastFrom to lastTo: by its first booking, then by its second
 unfoldable pub rises : ℕ → ℕ → ℕ → ℕ → Bool

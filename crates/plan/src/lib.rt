@@ -1,32 +1,37 @@
-// The plan record: bookings with their kinds, links, ways; its limits; and which counts and entries of a record are refused.
+// The plan record: bookings with their kinds and desks, links, ways; its limits; and which counts and entries of a record are refused.
 ghost use mathlib.Core.Path.{_≡_};
+ghost use mathlib.Core.Bool.{_&&_};
 ghost use Prim.Native.Nat.{_^_, _≤_};
 ghost use lib.Dec.{ltb};
 ghost use Rattle.bounded.specs.Bounded.{all};
 ghost use Rattle.sets.specs.Sets.{sizeOf};
-ghost use Rattle.plan.specs.Limits.{mostBookings, mostLinks, mostWays, isKind, within, counted, limits, rises, inSequence};
+ghost use Rattle.plan.specs.Limits.{mostBookings, mostLinks, mostWays, isKind, isDesk, within, counted, limits, rises, inSequence};
 ghost use Rattle.plan.specs.Judging.{isFine, judgedRefusal, judgedPlace};
 ghost use Rattle.plan.specs.Outline.{planOf};
-ghost use Rattle.plan.specs.Record.{kindAt, linkAt, countAt, withinAt, countsFit, entriesFit, recordOf};
+ghost use Rattle.plan.specs.Record.{bookingAt, linkAt, countAt, withinAt, countsFit, entriesFit, recordOf};
 
-// A plan: n bookings, m links, a ways. Entries past these counts have no meaning.
-// kind[b] is the letter of booking b + 1; link i joins booking from[i] to booking to[i]; bit b of way[k] says that booking b + 1 is in way k + 1.
+// A plan: n bookings, m links, a ways. Entries past these counts have no meaning. limit is how many matters a desk may have open.
+// kind[b] is the letter of booking b + 1, desk[b] the number of its desk; link i joins booking from[i] to booking to[i]; bit b of way[k] says that booking b + 1 is in way k + 1.
 pub struct Plan {
     pub n: usize,
     pub m: usize,
     pub a: usize,
+    pub limit: usize,
     pub kind: [u8; 64],
+    pub desk: [u8; 64],
     pub from: [u8; 512],
     pub to: [u8; 512],
     pub way: [u64; 16],
 }
 
-// A plan but for its links: its counts, its kinds and its ways.
+// A plan but for its links: its counts, its kinds, its desks and its ways.
 pub struct Outline {
     pub n: usize,
     pub m: usize,
     pub a: usize,
+    pub limit: usize,
     pub kind: [u8; 64],
+    pub desk: [u8; 64],
     pub way: [u64; 16],
 }
 
@@ -120,11 +125,21 @@ fn are_counted(bs: usize, ls: usize, ws: usize, n: usize, m: usize, a: usize) ->
     is_within(1, a, ws)
 }
 
-// Whether the counts of bookings, links and ways are within the limits of a plan.
-pub fn in_limits(n: usize, m: usize, a: usize) -> bool
-    ensures { λ r. ⌜ r ≡ limits n m a ⌝ }
+// Whether the counts of bookings, links and ways, and what a desk may have open, are within the limits of a plan.
+pub fn in_limits(n: usize, m: usize, a: usize, limit: usize) -> bool
+    ensures { λ r. ⌜ r ≡ limits n m a limit ⌝ }
 {
-    are_counted(64, 512, 16, n, m, a)
+    if !are_counted(64, 512, 16, n, m, a) {
+        return false;
+    }
+    is_within(1, limit, 64)
+}
+
+// Whether d is the number of a desk.
+pub fn known_desk(d: usize) -> bool
+    ensures { λ r. ⌜ r ≡ isDesk d ⌝ }
+{
+    is_within(1, d, 8)
 }
 
 // Whether the link from u to v comes after the link from last_from to last_to.
@@ -153,14 +168,24 @@ pub fn in_sequence(n: usize, last_from: usize, last_to: usize, u: usize, v: usiz
     rises(last_from, last_to, u, v)
 }
 
-// Whether each of the first n kinds is one.
-fn kinds_known(n: usize, kind: [u8; 64]) -> bool
+// Whether k is the letter of a kind and d the number of a desk.
+fn known_booking(k: u8, d: u8) -> bool
+    ensures { λ r. ⌜ r ≡ (isKind k && isDesk d) ⌝ }
+{
+    if !known_kind(k) {
+        return false;
+    }
+    known_desk(d as usize)
+}
+
+// Whether each of the first n bookings has a kind and a desk.
+fn bookings_known(n: usize, kind: [u8; 64], desk: [u8; 64]) -> bool
     requires { ⌜ n ≤ mostBookings ⌝ }
-    ensures { λ r. ⌜ r ≡ all (kindAt kind) n ⌝ }
+    ensures { λ r. ⌜ r ≡ all (bookingAt kind desk) n ⌝ }
 {
     let mut b = 0;
     while b < n {
-        if !known_kind(kind[b]) {
+        if !known_booking(kind[b], desk[b]) {
             return false;
         }
         b += 1;
@@ -241,7 +266,7 @@ fn ways_fit(n: usize, a: usize, way: [u64; 16]) -> bool
 fn record_counts(p: Plan) -> bool
     ensures { λ r. ⌜ r ≡ countsFit p ⌝ }
 {
-    if !in_limits(p.n, p.m, p.a) {
+    if !in_limits(p.n, p.m, p.a, p.limit) {
         return false;
     }
     let way = p.way;
@@ -254,7 +279,8 @@ fn record_entries(p: Plan) -> bool
     ensures { λ r. ⌜ r ≡ entriesFit p ⌝ }
 {
     let kind = p.kind;
-    if !kinds_known(p.n, kind) {
+    let desk = p.desk;
+    if !bookings_known(p.n, kind, desk) {
         return false;
     }
     let from = p.from;
@@ -271,12 +297,15 @@ pub fn with_links(o: Outline, from: [u8; 512], to: [u8; 512]) -> Plan
     ensures { λ r. ⌜ r ≡ planOf o from to ⌝ }
 {
     let kind = o.kind;
+    let desk = o.desk;
     let way = o.way;
     Plan {
         n: o.n,
         m: o.m,
         a: o.a,
+        limit: o.limit,
         kind,
+        desk,
         from,
         to,
         way,

@@ -3,7 +3,7 @@
 use mathlib.Core.Path.{_≡_}
 use mathlib.Core.Logic.{_≢_}
 use mathlib.Core.Bool.{true, false, not, _&&_}
-use Prim.Native.Nat.{ℕ, suc, _<_}
+use Prim.Native.Nat.{ℕ, suc, _≤_, _<_}
 use lib.Dec.{eqb}
 use lib.Bits.{bitAnd, bitOr}
 use borrow.Author.Tests.{ltb-true, eqb-true, eqb-false, not-true}
@@ -12,20 +12,22 @@ use Rattle.bounded.proofs.Bools.{by-cond, and-l, and-r}
 use Rattle.bounded.proofs.First.{Least, first-least, first-none}
 use Rattle.sets.specs.Sets.{member, without, some}
 use Rattle.sets.proofs.Facts.{both-e, without-e}
-use Rattle.network.specs.Network.{inWay, exposed}
+use Rattle.desks.specs.Desks.{openAt}
+use Rattle.desks.proofs.Laws.{nothing-open, room}
+use Rattle.network.specs.Network.{inWay, exposed, deskOf}
 use Rattle.network.specs.declared.Network.{Network}
-use Rattle.standing.specs.Standing.{free, requested, held, lost, returning}
+use Rattle.standing.specs.Standing.{free, requested, held, lost, returning, matters}
 use Rattle.standing.specs.Ways.{precedesSome, ready, lostIn, liveAt, firstLive}
 use Rattle.standing.specs.declared.Standing.{Standing}
 use Rattle.run.specs.State.{code, is, standing, here, put}
-use Rattle.run.specs.Orders.{toReturn, toRequest, unchanged, ending, next}
+use Rattle.run.specs.Orders.{passed, mayReturn, toReturn, mayRequest, toRequest, unchanged, ending, next}
 use Rattle.run.specs.Replies.{Y, N, G, K, settle, afterNo, fits, misfits, reply}
 use Rattle.run.specs.declared.Run.{Run}
 use Rattle.run.specs.declared.Ordered.{Ordered}
 use Rattle.run.specs.declared.Replied.{Replied}
 use Rattle.run.specs.declared.Order.{Order}
 use Rattle.run.specs.declared.Order.the-variants.{Request, Return, Wait, Flown, Off}
-use Rattle.run.proofs.Facts.{is-e, coded-e}
+use Rattle.run.proofs.Facts.{is-e, coded-e, no-matter}
 
 -- ---- the first live way
 
@@ -98,14 +100,16 @@ pub record Returns (g : Network) (r : Run) (x : ℕ) : Type 0 where
   pub is-held : code r x ≡ held
   pub outside : inWay g (r .way) x ≡ false
   pub loose : precedesSome g (bitOr (standing g r .held) (standing g r .returning)) x ≡ false
+  pub taken-on : passed g (standing g r) x ≡ false
 
 pub return-facts : (g : Network) (r : Run) (x : ℕ) → toReturn g (standing g r) (here g r) x ≡ true → Returns g r x
-unfolding toReturn inWay
+unfolding toReturn mayReturn inWay
 return-facts g r x e =
+    let may = mayReturn g (standing g r) (here g r) x in
     let out = member (without (standing g r .held) (here g r)) x in
-    let t = without-e (standing g r .held) (here g r) x (and-l out _ e) in
+    let t = without-e (standing g r .held) (here g r) x (and-l out _ (and-l may _ e)) in
     let h = coded-e g r held x (t .1) in
-    record { booking = h .0; is-held = h .1; outside = t .2; loose = not-true _ (and-r out _ e) }
+    record { booking = h .0; is-held = h .1; outside = t .2; loose = not-true _ (and-r out _ (and-l may _ e)); taken-on = not-true _ (and-r may _ e) }
 
 -- a booking to request
 pub record Requests (g : Network) (r : Run) (y : ℕ) : Type 0 where
@@ -113,14 +117,27 @@ pub record Requests (g : Network) (r : Run) (y : ℕ) : Type 0 where
   pub is-free : code r y ≡ free
   pub inside : inWay g (r .way) y ≡ true
   pub based : ready g (standing g r) y ≡ true
+  pub taken-on : passed g (standing g r) y ≡ false
 
 pub request-facts : (g : Network) (r : Run) (y : ℕ) → toRequest g (standing g r) (here g r) y ≡ true → Requests g r y
-unfolding toRequest inWay
+unfolding toRequest mayRequest inWay
 request-facts g r y e =
+    let may = mayRequest g (standing g r) (here g r) y in
     let wanted = member (bitAnd (standing g r .free) (here g r)) y in
-    let t = both-e (standing g r .free) (here g r) y (and-l wanted _ e) in
+    let t = both-e (standing g r .free) (here g r) y (and-l wanted _ (and-l may _ e)) in
     let h = coded-e g r free y (t .0) in
-    record { booking = h .0; is-free = h .1; inside = t .1; based = and-r wanted _ e }
+    record { booking = h .0; is-free = h .1; inside = t .1; based = and-r wanted _ (and-l may _ e); taken-on = not-true _ (and-r may _ e) }
+
+-- with nothing requested or returning no order is passed over: a limit is 1 or more
+pub none-passed : (g : Network) → 1 ≤ g .limit → (r : Run) → ((b : ℕ) → code r b ≢ requested) → ((b : ℕ) → code r b ≢ returning)
+    → (b : ℕ) → passed g (standing g r) b ≡ false
+unfolding passed
+none-passed g h r n o = nothing-open (g .limit) (g .desk) (matters (standing g r)) h (λ b. no-matter g r b (n b) (o b))
+
+-- where an order was not passed over, its desk has room
+pub has-room : (g : Network) (s : Standing) (b d : ℕ) → passed g s b ≡ false → d < 8 → member (deskOf g d) b ≡ true → openAt (g .desk) (matters s) d < g .limit
+unfolding passed deskOf
+has-room g s b d e h m = room (g .limit) (g .desk) (matters s) b d e h m
 
 -- ---- replies
 

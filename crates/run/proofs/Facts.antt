@@ -1,7 +1,7 @@
 -- What codes, a live way and a sound state are, as facts without bounds; the tests of codes and live ways cross over here.
 -- Assumes nothing.
 use mathlib.Core.Path.{_≡_}
-use mathlib.Core.Logic.{_≢_, inl, inr}
+use mathlib.Core.Logic.{_≢_, _⊎_, inl, inr}
 use mathlib.Core.Bool.{true, false, not}
 use Prim.Native.Nat.{ℕ, suc, _≤_, _<_}
 use native.Mathlib.Omega.{arith}
@@ -9,10 +9,11 @@ use lib.ListN.{length}
 use borrow.Author.Tests.{not-true}
 use Rattle.bounded.proofs.Bools.{clash, off, split?, and-l, and-r, _&_, not-i}
 use Rattle.sets.specs.Sets.{member, some}
-use Rattle.sets.proofs.Facts.{subset-e, subset-i, meet-i, meet-e, both-i, both-e}
+use Rattle.sets.proofs.Facts.{subset-e, subset-i, meet-i, meet-e, both-i, both-e, either-e, either-l, either-r}
+use Rattle.desks.specs.Desks.{openAt}
 use Rattle.network.specs.Network.{wayOf, inWay, pre, firm, exposed}
 use Rattle.network.specs.declared.Network.{Network}
-use Rattle.standing.specs.Standing.{free, requested, held, lost, returning, coded}
+use Rattle.standing.specs.Standing.{free, requested, held, lost, returning, coded, matters}
 use Rattle.standing.specs.Ways.{lostIn, heldFirm, live, liveAt}
 use Rattle.standing.proofs.Facts.{is-i as list-i, is-e as list-e, coded-i as in-i, coded-e as in-e, some-coded as some-in, none-coded as none-in}
 use Rattle.run.specs.State.{code, is, standing}
@@ -46,6 +47,25 @@ module _ (g : Network) (r : Run) (c : ℕ) where
   pub none-coded : some (coded (r .code) (g .n) c) ≡ false → (b : ℕ) → b < g .n → code r b ≢ c
   unfolding code
   none-coded e b h z = none-in (r .code) (g .n) c e b h z
+
+-- the open matters
+module _ (g : Network) (r : Run) (b : ℕ) where
+  pub matter-i : b < g .n → (code r b ≡ requested) ⊎ (code r b ≡ returning) → member (matters (standing g r)) b ≡ true
+  unfolding matters
+  matter-i h o = elim o [
+    | inl e ↦ either-l (standing g r .requested) (standing g r .returning) b (coded-i g r requested b h e)
+    | inr e ↦ either-r (standing g r .requested) (standing g r .returning) b (coded-i g r returning b h e)
+  ]
+
+  pub matter-e : member (matters (standing g r)) b ≡ true → (b < g .n) × ((code r b ≡ requested) ⊎ (code r b ≡ returning))
+  unfolding matters
+  matter-e e = elim (either-e (standing g r .requested) (standing g r .returning) b e) [
+    | inl m ↦ (let t = coded-e g r requested b m in (t .0, inl (t .1)))
+    | inr m ↦ (let t = coded-e g r returning b m in (t .0, inr (t .1)))
+  ]
+
+  pub no-matter : code r b ≢ requested → code r b ≢ returning → member (matters (standing g r)) b ≡ false
+  no-matter n o = off (member (matters (standing g r)) b) (λ e. elim (matter-e e .1) [ inl z ↦ n z | inr z ↦ o z ])
 
 -- the held firm bookings
 module _ (g : Network) (r : Run) (b : ℕ) where
@@ -82,6 +102,8 @@ pub record Core (g : Network) (r : Run) : Type 0 where
   pub quiet-returning : (b q : ℕ) → code r b ≡ returning → code r q ≢ requested
   -- the ways before the current one are not live
   pub earlier : (k : ℕ) → k < waysBefore g (r .way) → liveAt g (standing g r) k ≡ false
+  -- no desk has more matters open than the limit
+  pub desks : (d : ℕ) → d < 8 → openAt (g .desk) (matters (standing g r)) d ≤ g .limit
 
 pub record Sound (g : Network) (r : Run) : Type 0 where
   pub core : Core g r

@@ -14,14 +14,15 @@ use Rattle.bounded.proofs.Tests.{all-i, all-e}
 use Rattle.sets.specs.Sets.{member, without, subsetOf, some}
 use Rattle.sets.proofs.Facts.{subset-e, subset-i, apart-e, apart-i, neither-e, neither-i, some-i, some-member, both-i, both-e, either-e, either-l, either-r, without-i, without-e}
 use Rattle.sets.proofs.Gather.{gather-lt}
+use Rattle.desks.proofs.Laws.{kept-e, kept-i}
 use Rattle.network.specs.Network.{inWay, pre, firm, exposed}
 use Rattle.network.specs.declared.Network.{Network}
 use Rattle.network.proofs.Facts.{Shape}
-use Rattle.standing.specs.Standing.{free, requested, held, lost, returning}
+use Rattle.standing.specs.Standing.{free, requested, held, lost, returning, matters}
 use Rattle.standing.specs.Ways.{preceding, lostIn, heldFirm}
 use Rattle.standing.proofs.Facts.{preceding-i, preceding-e}
 use Rattle.run.specs.State.{code, is, standing, here}
-use Rattle.run.specs.Sound.{codeKnown, codesKnown, wayKnown, zeroPast, restZero, allFounded, lostExposed, requestedInside, returningOutside, quiet, waysBefore, passedOver, earlierDead, firmInside, lostPending, sound}
+use Rattle.run.specs.Sound.{codeKnown, codesKnown, wayKnown, zeroPast, restZero, allFounded, lostExposed, requestedInside, returningOutside, quiet, waysBefore, passedOver, earlierDead, firmInside, desksKept, lostPending, sound}
 use Rattle.run.specs.declared.Run.{Run}
 use Rattle.run.proofs.Facts.{Core, Sound, is-i, is-e, coded-i, coded-e, some-coded, none-coded, firm-i, firm-e, inside, lost-i, lost-e}
 
@@ -68,7 +69,7 @@ module _ (g : Network) (sh : Shape g) (r : Run) (s : Sound g r) where
   ]
 
   pub sound-i : sound g r ≡ true
-  unfolding sound codesKnown codeKnown wayKnown restZero zeroPast allFounded lostExposed requestedInside returningOutside quiet earlierDead passedOver firmInside lostPending inWay firm exposed c
+  unfolding sound codesKnown codeKnown wayKnown restZero zeroPast allFounded lostExposed requestedInside returningOutside quiet earlierDead passedOver firmInside desksKept lostPending inWay firm exposed c
   sound-i =
       all-i (codeKnown r) 64 (λ b h. le-leb _ _ (c .codes b))
       & le-leb _ _ (c .way)
@@ -81,6 +82,7 @@ module _ (g : Network) (sh : Shape g) (r : Run) (s : Sound g r) where
       & imp-i _ _ (λ e. not-i _ (off (some (standing g r .requested)) (λ z. let q = some-coded g r requested z in leaves (q .0) e (q .2))))
       & all-i (passedOver g (standing g r)) (waysBefore g (r .way)) (λ k h. not-i _ (c .earlier k h))
       & subset-i (heldFirm g (standing g r)) (here g r) (λ b h m. let t = firm-e g r b m in c .firm-in b (t .0) (t .1))
+      & kept-i (g .limit) (g .desk) (matters (standing g r)) (c .desks)
       & subset-i (preceding g (gone g r)) (standing g r .held)
       (based (gone g r) (λ v m. let t = both-e (standing g r .lost) (here g r) v m in (omega (arith, coded-e g r lost v (t .0) .1), λ z. t .1)))
       & imp-i _ _ (λ e.
@@ -100,6 +102,7 @@ pub record Sentences (g : Network) (r : Run) : Type 0 where
   pub quiets : quiet (standing g r) (here g r) ≡ true
   pub earlier : earlierDead g (standing g r) (r .way) ≡ true
   pub firms : firmInside g (standing g r) (here g r) ≡ true
+  pub desks : desksKept g (standing g r) ≡ true
 
 pub sentences : (g : Network) (r : Run) → sound g r ≡ true → Sentences g r
 unfolding sound
@@ -113,6 +116,7 @@ sentences g r e =
     let e7 = and-r (returningOutside g (standing g r) (here g r)) _ e6 in
     let e8 = and-r (quiet (standing g r) (here g r)) _ e7 in
     let e9 = and-r (earlierDead g (standing g r) (r .way)) _ e8 in
+    let e10 = and-r (firmInside g (standing g r) (here g r)) _ e9 in
     record {
       formed = and-l (codesKnown r) _ e & (and-l (wayKnown g r) _ e1 & and-l (restZero g r) _ e2);
       founds = and-l (allFounded g (standing g r)) _ e3;
@@ -122,6 +126,7 @@ sentences g r e =
       quiets = and-l (quiet (standing g r) (here g r)) _ e7;
       earlier = and-l (earlierDead g (standing g r) (r .way)) _ e8;
       firms = and-l (firmInside g (standing g r) (here g r)) _ e9;
+      desks = and-l (desksKept g (standing g r)) _ e10;
     }
 
 -- one sentence that fails is enough: x is what its test gave
@@ -133,7 +138,7 @@ pub sound-last : (g : Network) (r : Run) → Sentences g r → lostPending g (st
 unfolding sound
 sound-last g r p =
     let f = and-r (codesKnown r) _ (p .formed) in
-    rw (and-l (codesKnown r) _ (p .formed), and-l (wayKnown g r) _ f, and-r (wayKnown g r) _ f, p .founds, p .exposes, p .requests, p .returns, p .quiets, p .earlier, p .firms)
+    rw (and-l (codesKnown r) _ (p .formed), and-l (wayKnown g r) _ f, and-r (wayKnown g r) _ f, p .founds, p .exposes, p .requests, p .returns, p .quiets, p .earlier, p .firms, p .desks)
 
 -- a way that is known is one of the plan's, whatever the other sentences say
 pub way-few : (g : Network) (r : Run) (x : Bool) → codesKnown r && (wayKnown g r && x) ≡ true → g .a ≤ 16 → r .way ≤ 16
@@ -202,7 +207,7 @@ module _ (g : Network) (sh : Shape g) (r : Run) (size : length (r .code) ≡ 64)
   quiet-f q e m = none-coded g r requested (not-true _ (imp-e (some (without (standing g r .held) (here g r)) || some (standing g r .returning)) _ (t .quiets) e)) q (in-n q (omega arith)) m
 
   sentences-sound : Sound g r
-  unfolding wayKnown lostExposed requestedInside returningOutside earlierDead passedOver firmInside lostPending inWay firm exposed
+  unfolding wayKnown lostExposed requestedInside returningOutside earlierDead passedOver firmInside desksKept lostPending inWay firm exposed
   sentences-sound =
       record {
         core = record {
@@ -225,6 +230,7 @@ module _ (g : Network) (sh : Shape g) (r : Run) (size : length (r .code) ≡ 64)
           firm-in = λ b m z.
               let h = in-n b (omega arith) in
               subset-e (heldFirm g (standing g r)) (here g r) b (t .firms) (low b h) (firm-i g r b h m z);
+          desks = kept-e (g .limit) (g .desk) (matters (standing g r)) (t .desks);
         };
         waits = λ b l i.
             let z = lost-i g (sh .bookings) r (r .way) b (in-n b (omega arith)) i l in

@@ -1,4 +1,4 @@
--- The next order: the first of six rules that applies, and in it the lowest booking.
+-- The next order: the first of six rules that applies, and in it the lowest booking that is not passed over.
 -- Assumes nothing.
 use mathlib.Core.Bool.{Bool, not, _&&_, cond}
 use Prim.Native.Nat.{ℕ}
@@ -6,9 +6,10 @@ use lib.Dec.{eqb, ltb}
 use lib.Bits.{bitAnd, bitOr}
 use Rattle.bounded.specs.Bounded.{first}
 use Rattle.sets.specs.Sets.{member, without, some}
+use Rattle.desks.specs.Desks.{deskFull}
 use Rattle.network.specs.Network.{wayOf}
 use Rattle.network.specs.declared.Network.{Network}
-use Rattle.standing.specs.Standing.{requested, returning}
+use Rattle.standing.specs.Standing.{requested, returning, matters}
 use Rattle.standing.specs.Ways.{precedesSome, ready, lostIn}
 use Rattle.standing.specs.declared.Standing.{Standing}
 use Rattle.run.specs.State.{standing, here, put}
@@ -17,13 +18,23 @@ use Rattle.run.specs.declared.Ordered.{Ordered}
 use Rattle.run.specs.declared.Order.{Order}
 use Rattle.run.specs.declared.Order.the-variants.{Request, Return, Wait, Flown, Off}
 
+-- an order for b is passed over: its desk is full
+unfoldable pub passed : Network → Standing → ℕ → Bool
+passed g s b = deskFull (g .limit) (g .desk) (matters s) b
+
 -- rule 2: b is held, outside the current way, and precedes no held or returning booking
+unfoldable pub mayReturn : Network → Standing → ℕ → ℕ → Bool
+mayReturn g s way b = member (without (s .held) way) b && not (precedesSome g (bitOr (s .held) (s .returning)) b)
+
 unfoldable pub toReturn : Network → Standing → ℕ → ℕ → Bool
-toReturn g s way b = member (without (s .held) way) b && not (precedesSome g (bitOr (s .held) (s .returning)) b)
+toReturn g s way b = mayReturn g s way b && not (passed g s b)
 
 -- rule 4: b is a free booking of the current way whose predecessors are all held
+unfoldable pub mayRequest : Network → Standing → ℕ → ℕ → Bool
+mayRequest g s way b = member (bitAnd (s .free) way) b && ready g s b
+
 unfoldable pub toRequest : Network → Standing → ℕ → ℕ → Bool
-toRequest g s way b = member (bitAnd (s .free) way) b && ready g s b
+toRequest g s way b = mayRequest g s way b && not (passed g s b)
 
 -- an order that changes nothing
 abbrev pub unchanged : Order → Run → Ordered

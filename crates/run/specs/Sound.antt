@@ -6,8 +6,9 @@ use lib.Dec.{leb}
 use lib.Bits.{bitAnd, bitOr}
 use Rattle.bounded.specs.Bounded.{imp, all}
 use Rattle.sets.specs.Sets.{without, subsetOf, disjointFrom, some}
+use Rattle.desks.specs.Desks.{allInLimit}
 use Rattle.network.specs.declared.Network.{Network}
-use Rattle.standing.specs.Standing.{free, returning}
+use Rattle.standing.specs.Standing.{free, returning, matters}
 use Rattle.standing.specs.Ways.{preceding, lostIn, heldFirm, liveAt}
 use Rattle.standing.specs.declared.Standing.{Standing}
 use Rattle.run.specs.State.{code, is, standing, here}
@@ -71,8 +72,13 @@ firmInside g s way = subsetOf (heldFirm g s) way
 unfoldable pub lostPending : Network → Standing → ℕ → Bool
 lostPending g s way = subsetOf (preceding g (bitAnd (s .lost) way)) (s .held) && imp (lostIn s way) (some (s .requested))
 
+-- no desk has more matters open than the limit
+unfoldable pub desksKept : Network → Standing → Bool
+desksKept g s = allInLimit (g .limit) (g .desk) (matters s)
+
 unfoldable pub sound : Network → Run → Bool
 sound g r =
     let s = standing g r in
     codesKnown r && (wayKnown g r && (restZero g r && (allFounded g s && (lostExposed g s && (requestedInside s (here g r)
-    && (returningOutside g s (here g r) && (quiet s (here g r) && (earlierDead g s (r .way) && (firmInside g s (here g r) && lostPending g s (here g r))))))))))
+    && (returningOutside g s (here g r) && (quiet s (here g r) && (earlierDead g s (r .way) && (firmInside g s (here g r)
+    && (desksKept g s && lostPending g s (here g r)))))))))))

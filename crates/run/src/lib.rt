@@ -6,7 +6,8 @@ ghost use mathlib.Core.Path.{_≡_};
 ghost use Prim.Native.Nat.{_≤_, _<_};
 ghost use lib.ListN.{length};
 ghost use Rattle.bounded.specs.Bounded.{first};
-ghost use Rattle.standing.specs.Standing.{standingOf};
+ghost use Rattle.desks.specs.Desks.{fullOf};
+ghost use Rattle.standing.specs.Standing.{matters, standingOf};
 ghost use Rattle.run.specs.State.{put, start, standing};
 ghost use Rattle.run.specs.Orders.{toReturn, toRequest, next, orderOf};
 ghost use Rattle.run.specs.Replies.{settle, wayAfter, afterNo, fits, misfits, reply};
@@ -39,28 +40,26 @@ pub struct Replied {
     pub run: Run,
 }
 
-// Rule 2: the lowest booking to return, or 64.
-fn to_return(g: Network, before: &[u64; 64], s: Standing, way: u64) -> usize
-    requires { ⌜ (now before ≡ g .before) × (g .n ≤ 64) ⌝ }
+// Rule 2: the lowest booking to return, or 64; those at a full desk are passed over.
+fn to_return(g: Network, before: &[u64; 64], full: u64, s: Standing, way: u64) -> usize
+    requires { ⌜ (now before ≡ g .before) × (g .n ≤ 64) × (full ≡ fullOf (g .limit) (g .desk) (matters s)) ⌝ }
     ensures { λ x. ⌜ x ≡ first (toReturn g s way) 64 ⌝ }
 {
     let outside = sets::minus(s.held, way);
     if outside == 0 {
         return 64;
     }
-    sets::lowest(sets::minus(
-        outside,
-        standing::preceding(g, before, s.held | s.returning),
-    ))
+    let kept = standing::preceding(g, before, s.held | s.returning);
+    sets::lowest(sets::minus(outside, kept | full))
 }
 
-// Rule 4: the lowest booking to request, or n. Only the free bookings of the way are looked at, the lowest first; the cut keeps to
-// bookings of the plan.
-fn to_request(g: Network, before: &[u64; 64], s: Standing, way: u64) -> usize
-    requires { ⌜ (now before ≡ g .before) × (g .n ≤ 64) ⌝ }
+// Rule 4: the lowest booking to request, or n; those at a full desk are passed over. Only the free bookings of the way are looked at, the
+// lowest first; the cut keeps to bookings of the plan.
+fn to_request(g: Network, before: &[u64; 64], full: u64, s: Standing, way: u64) -> usize
+    requires { ⌜ (now before ≡ g .before) × (g .n ≤ 64) × (full ≡ fullOf (g .limit) (g .desk) (matters s)) ⌝ }
     ensures { λ y. ⌜ y ≡ first (toRequest g s way) (g .n) ⌝ }
 {
-    let mut rest = s.free & way & sets::all_below(g.n);
+    let mut rest = sets::minus(s.free & way & sets::all_below(g.n), full);
     while rest != 0 {
         let b = sets::lowest(rest);
         if sets::subset(before[b], s.held) {
@@ -71,24 +70,31 @@ fn to_request(g: Network, before: &[u64; 64], s: Standing, way: u64) -> usize
     g.n
 }
 
-// The order of rules 1 to 6, where the bookings stand so and way w is current. It is worked out from the sets alone, so that a caller
-// need not hand over the whole state.
-pub fn due_order(g: Network, before: &[u64; 64], ways: &[u64; 16], s: Standing, w: u8) -> Order
-    requires { ⌜ (now before ≡ g .before) × (now ways ≡ g .way) × (g .n ≤ 64) × (w ≤ 16) ⌝ }
+// The order of rules 1 to 6, where the bookings stand so, those in full are at a full desk, and way w is current. It is worked out from
+// the sets alone, so that a caller need not hand over the whole state.
+pub fn due_order(
+    g: Network,
+    before: &[u64; 64],
+    ways: &[u64; 16],
+    full: u64,
+    s: Standing,
+    w: u8,
+) -> Order
+    requires { ⌜ (now before ≡ g .before) × (now ways ≡ g .way) × (g .n ≤ 64) × (w ≤ 16) × (full ≡ fullOf (g .limit) (g .desk) (matters s)) ⌝ }
     ensures { λ o. ⌜ o ≡ orderOf g s w ⌝ }
 {
     let way = standing::way_of(g, ways, w as usize);
     if s.lost_in(way) {
         return Order::Wait;
     }
-    let x = to_return(g, before, s, way);
+    let x = to_return(g, before, full, s, way);
     if x < 64 {
         return Order::Return(x);
     }
     if s.returning != 0 {
         return Order::Wait;
     }
-    let y = to_request(g, before, s, way);
+    let y = to_request(g, before, full, s, way);
     if y < g.n {
         return Order::Request(y);
     }
@@ -169,7 +175,9 @@ impl Run {
     {
         let before = g.before;
         let ways = g.way;
-        let order = due_order(g, &before, &ways, s, self.way);
+        let desks = g.desk;
+        let full = desks::full(g.limit, &desks, s.matters());
+        let order = due_order(g, &before, &ways, full, s, self.way);
         let run = match order {
             Order::Request(y) => self.put(y, standing::REQUESTED),
             Order::Return(x) => self.put(x, standing::RETURNING),

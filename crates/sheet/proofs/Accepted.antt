@@ -1,7 +1,8 @@
 -- What an accepted sheet is: its plan is valid (`sheet-valid`), and its bytes are, to the last, the sheet of that plan (`sheet-accepted`). So its lines
--- have the letters of the plan's kinds (`sheet-letters`) and the counts of its ways (`sheet-counts`).
+-- have the plan's limit (`sheet-limit`), the letters of its kinds (`sheet-letters`), the numbers of its desks (`sheet-desks`) and the counts of its
+-- ways (`sheet-counts`).
 -- Assumes nothing.
-use Prim.Native.Nat.{ℕ, _+_, _*_, _<_}
+use Prim.Native.Nat.{ℕ, _+_, _*_, _^_, _<_}
 use mathlib.Core.Path.{_≡_, refl, sym, ap, _∙_}
 use mathlib.Core.List.{List, [], _++_, append-nil}
 use mathlib.Core.Bool.{Bool, true, false, cond}
@@ -22,19 +23,19 @@ use Rattle.plan.proofs.LimitLaws.{Limited}
 use Rattle.plan.proofs.Valid.{Valid, valid, fine-i}
 use Rattle.plan.proofs.RecordLaws.{fine-is}
 use Rattle.lines.specs.Form.{headBytes, bookingBytes, linkBytes, linksPlace, waysPlace}
-use Rattle.lines.specs.Head.{headOf}
-use Rattle.lines.specs.Booking.{kindIn}
-use Rattle.lines.specs.Kinds.{kindsText, letterOn, noKinds}
+use Rattle.lines.specs.Head.{headText, limitIn, headOf}
+use Rattle.lines.specs.Booking.{kindIn, deskIn}
+use Rattle.lines.specs.Bookings.{bookingsText, letterOn, deskOn, noBookings}
 use Rattle.lines.specs.Links.{linksText, noLinks}
 use Rattle.lines.specs.declared.Head.{Head}
 use Rattle.lines.specs.declared.Head.the-variants as H
-use Rattle.lines.proofs.RoundTrip.{head-accepted, head-limits}
-use Rattle.lines.proofs.AllLines.{letter-at, KindsAre, kinds-accepted, LinksAre, links-accepted}
-use Rattle.lines.proofs.Lengths.{no-kinds-length, no-links-length}
+use Rattle.lines.proofs.RoundTrip.{its-limit, head-accepted, head-limits}
+use Rattle.lines.proofs.AllLines.{letter-at, desk-at, BookingsAre, bookings-accepted, LinksAre, links-accepted}
+use Rattle.lines.proofs.Lengths.{no-bookings-length, no-links-length}
 use Rattle.ways.specs.WayText.{waysText, waysLength, sizeAt}
 use Rattle.ways.specs.Ways.{countsListed}
 use Rattle.ways.proofs.WaysRoundTrip.{Read, all-accepted}
-use Rattle.sheet.specs.Sheet.{kindsIn, linksIn, waysIn, planIn, refusedOf, endOf, bodyOf, sheetOf}
+use Rattle.sheet.specs.Sheet.{bookingsIn, linksIn, waysIn, planIn, refusedOf, endOf, bodyOf, sheetOf}
 use Rattle.sheet.specs.Text.{sheetText}
 use Rattle.sheet.specs.declared.Sheet.{Sheet}
 
@@ -44,47 +45,49 @@ record Stages (s : List ℕ) : Type 0 where
   n : ℕ
   m : ℕ
   a : ℕ
-  head : headOf (take headBytes s) ≡ H.Counts n m a
-  kinds : kindsIn n s .judged ≡ Fine
+  limit : ℕ
+  head : headOf (take headBytes s) ≡ H.Counts n m a limit
+  bookings : bookingsIn n s .judged ≡ Fine
   links : linksIn n m s .judged ≡ Fine
   ways : waysIn n m a s .judged ≡ Fine
   end : waysIn n m a s .next ≡ length s
-  read : sheetOf s ≡ record { judged = Fine; plan = planIn n m a s }
+  read : sheetOf s ≡ record { judged = Fine; plan = planIn n m a limit s }
 
 module _ (s : List ℕ) where
-  body-stages : (n m a : ℕ) → headOf (take headBytes s) ≡ H.Counts n m a → (x y z w : Bool) → isFine (kindsIn n s .judged) ≡ x → isFine (linksIn n m s .judged) ≡ y
+  body-stages : (n m a limit : ℕ) → headOf (take headBytes s) ≡ H.Counts n m a limit → (x y z w : Bool) → isFine (bookingsIn n s .judged) ≡ x → isFine (linksIn n m s .judged) ≡ y
       → isFine (waysIn n m a s .judged) ≡ z → eqb (waysIn n m a s .next) (length s) ≡ w
       → sheetOf s
       ≡ cond x
       (cond y
-      (cond z (cond w (record { judged = Fine; plan = planIn n m a s }) (refusedOf (Form (n + m + a + 2)))) (refusedOf (waysIn n m a s .judged)))
+      (cond z (cond w (record { judged = Fine; plan = planIn n m a limit s }) (refusedOf (Form (n + m + a + 2)))) (refusedOf (waysIn n m a s .judged)))
       (refusedOf (linksIn n m s .judged)))
-      (refusedOf (kindsIn n s .judged))
+      (refusedOf (bookingsIn n s .judged))
       → isFine (sheetOf s .judged) ≡ true → Stages s
   unfolding refusedOf
-  body-stages n m a h true true true true k l v t e q = record {
+  body-stages n m a limit h true true true true k l v t e q = record {
     n = n;
     m = m;
     a = a;
+    limit = limit;
     head = h;
-    kinds = fine-is (kindsIn n s .judged) k;
+    bookings = fine-is (bookingsIn n s .judged) k;
     links = fine-is (linksIn n m s .judged) l;
     ways = fine-is (waysIn n m a s .judged) v;
     end = eqb-true _ _ t;
     read = e;
   }
-  body-stages n m a h true true true false k l v t e q = clash true refl (sym (rw e at q))
-  body-stages n m a h true true false w k l v t e q = clash (isFine (waysIn n m a s .judged)) (rw e at q) v
-  body-stages n m a h true false z w k l v t e q = clash (isFine (linksIn n m s .judged)) (rw e at q) l
-  body-stages n m a h false y z w k l v t e q = clash (isFine (kindsIn n s .judged)) (rw e at q) k
+  body-stages n m a limit h true true true false k l v t e q = clash true refl (sym (rw e at q))
+  body-stages n m a limit h true true false w k l v t e q = clash (isFine (waysIn n m a s .judged)) (rw e at q) v
+  body-stages n m a limit h true false z w k l v t e q = clash (isFine (linksIn n m s .judged)) (rw e at q) l
+  body-stages n m a limit h false y z w k l v t e q = clash (isFine (bookingsIn n s .judged)) (rw e at q) k
 
   stages : isFine (sheetOf s .judged) ≡ true → Stages s
   unfolding sheetOf bodyOf endOf refusedOf
   stages = go (headOf (take headBytes s)) refl
     where
       go : (h : Head) → headOf (take headBytes s) ≡ h → isFine (sheetOf s .judged) ≡ true → Stages s
-      go (H.Counts n m a) e q =
-          body-stages n m a e (isFine (kindsIn n s .judged)) (isFine (linksIn n m s .judged)) (isFine (waysIn n m a s .judged))
+      go (H.Counts n m a limit) e q =
+          body-stages n m a limit e (isFine (bookingsIn n s .judged)) (isFine (linksIn n m s .judged)) (isFine (waysIn n m a s .judged))
           (eqb (waysIn n m a s .next) (length s)) refl refl refl refl (rw e) q
       go H.Malformed e q = let f : sheetOf s ≡ refusedOf (Form 1) = rw e in clash true refl (sym (rw f at q))
       go H.OutOfLimits e q = let f : sheetOf s ≡ refusedOf (Count 1) = rw e in clash true refl (sym (rw f at q))
@@ -92,14 +95,16 @@ module _ (s : List ℕ) where
 -- ---- the parts of an accepted sheet
 
 module _ (s : List ℕ) (t : Stages s) where
-  fits : Limited (t .n) (t .m) (t .a)
-  fits = head-limits (take headBytes s) (headOf (take headBytes s)) (t .n) (t .m) (t .a) refl (t .head)
+  fits : Limited (t .n) (t .m) (t .a) (t .limit)
+  fits = head-limits (take headBytes s) (headOf (take headBytes s)) (t .n) (t .m) (t .a) (t .limit) refl (t .head)
 
-  the-kinds : KindsAre (t .n) 0 (drop headBytes s) noKinds (kindsIn (t .n) s .kind)
-  unfolding kindsIn
-  the-kinds =
-      kinds-accepted (t .n) 0 (drop headBytes s) noKinds (kindsIn (t .n) s .kind) (omega (arith, no-kinds-length, fits .bookings))
-      (ap (λ (j : Judged). record { judged = j; kind = kindsIn (t .n) s .kind }) (t .kinds))
+  the-bookings : BookingsAre (t .n) 0 (drop headBytes s) noBookings noBookings (bookingsIn (t .n) s .kind) (bookingsIn (t .n) s .desk)
+  unfolding bookingsIn
+  the-bookings =
+      bookings-accepted (t .n) 0 (drop headBytes s) noBookings noBookings (bookingsIn (t .n) s .kind) (bookingsIn (t .n) s .desk)
+      (omega (arith, no-bookings-length, fits .bookings))
+      (omega (arith, no-bookings-length, fits .bookings))
+      (ap (λ (j : Judged). record { judged = j; kind = bookingsIn (t .n) s .kind; desk = bookingsIn (t .n) s .desk }) (t .bookings))
 
   the-links : LinksAre (t .n) (t .m) 0 (drop (linksPlace (t .n)) s) 0 0 noLinks noLinks (linksIn (t .n) (t .m) s .from) (linksIn (t .n) (t .m) s .to)
   unfolding linksIn
@@ -119,10 +124,10 @@ module _ (s : List ℕ) (t : Stages s) where
 
   -- ---- its plan has no refusal 2 and no refusal 3
 
-  plan-fine : recordOf (planIn (t .n) (t .m) (t .a) s) ≡ R.Fine
+  plan-fine : recordOf (planIn (t .n) (t .m) (t .a) (t .limit) s) ≡ R.Fine
   unfolding planIn
   plan-fine =
-      fine-i (planIn (t .n) (t .m) (t .a) s) fits (λ b h. the-kinds .good b (omega arith) (omega arith))
+      fine-i (planIn (t .n) (t .m) (t .a) (t .limit) s) fits (λ b h. the-bookings .good b (omega arith) (omega arith))
       (λ i h. the-links .good refl refl i (omega arith) (omega arith)) (λ k h. the-ways .writable k h .small) (λ k h. the-ways .writable k h .some)
 
   -- ---- its bytes are the lines of that plan
@@ -139,25 +144,44 @@ module _ (s : List ℕ) (t : Stages s) where
   after-links =
       sym (take-append-drop (linkBytes * t .m) (drop (linksPlace (t .n)) s)) ∙ rw (the-links .text, drop-drop (linkBytes * t .m) (linksPlace (t .n)) s)
 
-  after-kinds : drop headBytes s ≡ kindsText (t .n) 0 (kindsIn (t .n) s .kind) ++ drop (linksPlace (t .n)) s
-  after-kinds = sym (take-append-drop (bookingBytes * t .n) (drop headBytes s)) ∙ rw (the-kinds .text, drop-drop (bookingBytes * t .n) headBytes s)
+  after-bookings : drop headBytes s ≡ bookingsText (t .n) 0 (bookingsIn (t .n) s .kind) (bookingsIn (t .n) s .desk) ++ drop (linksPlace (t .n)) s
+  after-bookings = sym (take-append-drop (bookingBytes * t .n) (drop headBytes s)) ∙ rw (the-bookings .text, drop-drop (bookingBytes * t .n) headBytes s)
 
-  letters-are : (b : ℕ) → b < t .n → letterOn s b ≡ getD (kindsIn (t .n) s .kind) b 0
+  after-head : s ≡ headText (t .n) (t .m) (t .a) (t .limit) ++ drop headBytes s
+  after-head = sym (take-append-drop headBytes s) ∙ rw (head-accepted (take headBytes s) (t .n) (t .m) (t .a) (t .limit) (t .head) .text)
+
+  bytes-are : s ≡ sheetText (planIn (t .n) (t .m) (t .a) (t .limit) s)
+  unfolding sheetText planIn
+  bytes-are = after-head ∙ rw (after-bookings, after-links, after-ways)
+
+  -- ---- so its columns hold what that plan holds
+
+  limit-is : limitIn s ≡ t .limit
+  limit-is = ap limitIn after-head ∙ its-limit (t .n) (t .m) (t .a) (t .limit) (drop headBytes s) (omega (arith, fits .matters))
+
+  -- where the line of a booking stands
+  line-there : (b : ℕ) → drop (linksPlace b) s
+      ≡ drop (bookingBytes * b) (bookingsText (t .n) 0 (bookingsIn (t .n) s .kind) (bookingsIn (t .n) s .desk) ++ drop (linksPlace (t .n)) s)
+  line-there b = sym (drop-drop (bookingBytes * b) headBytes s) ∙ ap (drop (bookingBytes * b)) after-bookings
+
+  letters-are : (b : ℕ) → b < t .n → letterOn s b ≡ getD (bookingsIn (t .n) s .kind) b 0
   unfolding letterOn
   letters-are b h =
-      ap kindIn (sym (drop-drop (bookingBytes * b) headBytes s)) ∙ ap (λ (l : List ℕ). kindIn (drop (bookingBytes * b) l)) after-kinds
-      ∙ letter-at (t .n) 0 b (kindsIn (t .n) s .kind) (drop (linksPlace (t .n)) s) h ∙ ap (λ (i : ℕ). getD (kindsIn (t .n) s .kind) i 0) (zero-add b)
+      ap kindIn (line-there b) ∙ letter-at (t .n) 0 b (bookingsIn (t .n) s .kind) (bookingsIn (t .n) s .desk) (drop (linksPlace (t .n)) s) h
+      ∙ ap (λ (i : ℕ). getD (bookingsIn (t .n) s .kind) i 0) (zero-add b)
 
-  bytes-are : s ≡ sheetText (planIn (t .n) (t .m) (t .a) s)
-  unfolding sheetText planIn
-  bytes-are =
-      sym (take-append-drop headBytes s)
-      ∙ rw (head-accepted (take headBytes s) (t .n) (t .m) (t .a) (t .head) .text, after-kinds, after-links, after-ways)
+  desks-are : (b : ℕ) → b < t .n → deskOn s b ≡ getD (bookingsIn (t .n) s .desk) b 0
+  unfolding deskOn planIn
+  desks-are b h =
+      let d : getD (bookingsIn (t .n) s .desk) b 0 < 10 ^ 4 = omega (arith, valid (planIn (t .n) (t .m) (t .a) (t .limit) s) plan-fine .desks b h) in
+      ap deskIn (line-there b)
+      ∙ desk-at (t .n) 0 b (bookingsIn (t .n) s .kind) (bookingsIn (t .n) s .desk) (drop (linksPlace (t .n)) s) h (rw (zero-add b) d)
+      ∙ ap (λ (i : ℕ). getD (bookingsIn (t .n) s .desk) i 0) (zero-add b)
 
 -- ---- the theorems
 
 module _ (s : List ℕ) (e : isFine (sheetOf s .judged) ≡ true) where
-  read-plan : planIn (stages s e .n) (stages s e .m) (stages s e .a) s ≡ sheetOf s .plan
+  read-plan : planIn (stages s e .n) (stages s e .m) (stages s e .a) (stages s e .limit) s ≡ sheetOf s .plan
   read-plan = sym (ap (λ (r : Sheet). r .plan) (stages s e .read))
 
   -- the plan of an accepted sheet passes the record's test
@@ -172,10 +196,20 @@ module _ (s : List ℕ) (e : isFine (sheetOf s .judged) ≡ true) where
   pub sheet-accepted : sheetText (sheetOf s .plan) ≡ s
   sheet-accepted = sym (bytes-are s (stages s e) ∙ ap sheetText read-plan)
 
+  -- its head has the limit of its desks
+  pub sheet-limit : limitIn s ≡ sheetOf s .plan .limit
+  unfolding planIn
+  sheet-limit = rw (← read-plan) (limit-is s (stages s e))
+
   -- its booking lines have the letters of its kinds
   pub sheet-letters : (b : ℕ) → b < sheetOf s .plan .n → letterOn s b ≡ getD (sheetOf s .plan .kind) b 0
   unfolding planIn
   sheet-letters = rw (← read-plan) (letters-are s (stages s e))
+
+  -- and the numbers of its desks
+  pub sheet-desks : (b : ℕ) → b < sheetOf s .plan .n → deskOn s b ≡ getD (sheetOf s .plan .desk) b 0
+  unfolding planIn
+  sheet-desks = rw (← read-plan) (desks-are s (stages s e))
 
   -- the counts that its way lines list add up to the sizes of its sets
   pub sheet-counts : countsListed (sheetOf s .plan .a) (drop (waysPlace (sheetOf s .plan .n) (sheetOf s .plan .m)) s)

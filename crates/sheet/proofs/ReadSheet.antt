@@ -15,14 +15,14 @@ use Rattle.plan.specs.Limits.{mostBookings}
 use Rattle.plan.specs.Record.{recordOf}
 use Rattle.plan.specs.declared.Judged.the-variants.{Fine}
 use Rattle.plan.proofs.LimitLaws.{Limited, limited-i}
-use Rattle.plan.proofs.Valid.{valid, fine-entries, kind-fits, link-fits}
+use Rattle.plan.proofs.Valid.{valid, fine-entries, booking-fits, link-fits}
 use Rattle.lines.specs.Form.{headBytes, bookingBytes, linkBytes, linksPlace, waysPlace}
 use Rattle.lines.specs.Head.{headText, headOf}
-use Rattle.lines.specs.Kinds.{kindsText, noKinds}
+use Rattle.lines.specs.Bookings.{bookingsText, noBookings}
 use Rattle.lines.specs.Links.{linksText, noLinks}
-use Rattle.lines.proofs.Lengths.{head-length, kinds-length, links-length}
+use Rattle.lines.proofs.Lengths.{head-length, bookings-length, links-length}
 use Rattle.lines.proofs.RoundTrip.{head-read}
-use Rattle.lines.proofs.AllLines.{kinds-read, links-read}
+use Rattle.lines.proofs.AllLines.{bookings-read, links-read}
 use Rattle.plan.specs.declared.Judgement.the-variants as R
 use Rattle.lines.specs.declared.Head.the-variants as H
 use Rattle.ways.specs.WayText.{wayBytes, waysText, waysLength}
@@ -30,14 +30,14 @@ use Rattle.ways.specs.Ways.{noWays}
 use Rattle.ways.proofs.WaysRoundTrip.{ways-length, all-read}
 use Rattle.ways.proofs.TextLaws.{ways-most}
 use Rattle.sheet.specs.Text.{sheetText, sheetLength, longestSheet}
-use Rattle.sheet.specs.Sheet.{kindsIn, linksIn, waysIn, planIn, endOf, bodyOf, sheetOf}
+use Rattle.sheet.specs.Sheet.{bookingsIn, linksIn, waysIn, planIn, endOf, bodyOf, sheetOf}
 use Rattle.sheet.proofs.Accepted.{sheet-fine, sheet-accepted}
 
 pub sheet-length : (p : Plan) → length (sheetText p) ≡ sheetLength p
 unfolding sheetText sheetLength
 sheet-length p =
-    let h : List ℕ = headText (p .n) (p .m) (p .a) in
-    let k : List ℕ = kindsText (p .n) 0 (p .kind) in
+    let h : List ℕ = headText (p .n) (p .m) (p .a) (p .limit) in
+    let k : List ℕ = bookingsText (p .n) 0 (p .kind) (p .desk) in
     let l : List ℕ = linksText (p .m) 0 (p .from) (p .to) in
     let w : List ℕ = waysText (p .a) 0 (p .way) in
     omega (
@@ -45,8 +45,8 @@ sheet-length p =
       length-append h (k ++ (l ++ w)),
       length-append k (l ++ w),
       length-append l w,
-      head-length (p .n) (p .m) (p .a),
-      kinds-length (p .n) 0 (p .kind),
+      head-length (p .n) (p .m) (p .a) (p .limit),
+      bookings-length (p .n) 0 (p .kind) (p .desk),
       links-length (p .m) 0 (p .from) (p .to),
       ways-length (p .a) (p .way),
     )
@@ -57,29 +57,31 @@ readPlan p = record {
   n = p .n;
   m = p .m;
   a = p .a;
-  kind = filled (p .n) 0 (p .kind) noKinds;
+  limit = p .limit;
+  kind = filled (p .n) 0 (p .kind) noBookings;
+  desk = filled (p .n) 0 (p .desk) noBookings;
   from = filled (p .m) 0 (p .from) noLinks;
   to = filled (p .m) 0 (p .to) noLinks;
   way = filled (p .a) 0 (p .way) noWays;
 }
 
 module _ (p : Plan) (e : recordOf p ≡ R.Fine) where
-  fits : Limited (p .n) (p .m) (p .a)
+  fits : Limited (p .n) (p .m) (p .a) (p .limit)
   fits = valid p e .counts
 
-  the-head : headOf (take headBytes (sheetText p)) ≡ H.Counts (p .n) (p .m) (p .a)
+  the-head : headOf (take headBytes (sheetText p)) ≡ H.Counts (p .n) (p .m) (p .a) (p .limit)
   unfolding sheetText
   the-head =
-      rw (take-at (headText (p .n) (p .m) (p .a)) (kindsText (p .n) 0 (p .kind) ++ (linksText (p .m) 0 (p .from) (p .to) ++ waysText (p .a) 0 (p .way))) headBytes (head-length (p .n) (p .m) (p .a)))
-      (head-read (p .n) (p .m) (p .a) (limited-i (p .n) (p .m) (p .a) fits))
+      rw (take-at (headText (p .n) (p .m) (p .a) (p .limit)) (bookingsText (p .n) 0 (p .kind) (p .desk) ++ (linksText (p .m) 0 (p .from) (p .to) ++ waysText (p .a) 0 (p .way))) headBytes (head-length (p .n) (p .m) (p .a) (p .limit)))
+      (head-read (p .n) (p .m) (p .a) (p .limit) (limited-i (p .n) (p .m) (p .a) (p .limit) fits))
 
-  from-kinds : drop headBytes (sheetText p) ≡ kindsText (p .n) 0 (p .kind) ++ (linksText (p .m) 0 (p .from) (p .to) ++ waysText (p .a) 0 (p .way))
+  from-bookings : drop headBytes (sheetText p) ≡ bookingsText (p .n) 0 (p .kind) (p .desk) ++ (linksText (p .m) 0 (p .from) (p .to) ++ waysText (p .a) 0 (p .way))
   unfolding sheetText
-  from-kinds = drop-at (headText (p .n) (p .m) (p .a)) _ headBytes (head-length (p .n) (p .m) (p .a))
+  from-bookings = drop-at (headText (p .n) (p .m) (p .a) (p .limit)) _ headBytes (head-length (p .n) (p .m) (p .a) (p .limit))
 
   from-links : drop (linksPlace (p .n)) (sheetText p) ≡ linksText (p .m) 0 (p .from) (p .to) ++ waysText (p .a) 0 (p .way)
   from-links =
-      sym (drop-drop (bookingBytes * p .n) headBytes (sheetText p)) ∙ rw from-kinds (drop-at (kindsText (p .n) 0 (p .kind)) _ (bookingBytes * p .n) (kinds-length (p .n) 0 (p .kind)))
+      sym (drop-drop (bookingBytes * p .n) headBytes (sheetText p)) ∙ rw from-bookings (drop-at (bookingsText (p .n) 0 (p .kind) (p .desk)) _ (bookingBytes * p .n) (bookings-length (p .n) 0 (p .kind) (p .desk)))
 
   from-ways : drop (waysPlace (p .n) (p .m)) (sheetText p) ≡ waysText (p .a) 0 (p .way) ++ []
   from-ways =
@@ -87,9 +89,11 @@ module _ (p : Plan) (e : recordOf p ≡ R.Fine) where
       ∙ rw from-links (drop-at (linksText (p .m) 0 (p .from) (p .to)) _ (linkBytes * p .m) (links-length (p .m) 0 (p .from) (p .to)))
       ∙ sym (append-nil (waysText (p .a) 0 (p .way)))
 
-  the-kinds : kindsIn (p .n) (sheetText p) ≡ record { judged = Fine; kind = readPlan p .kind }
-  unfolding kindsIn readPlan
-  the-kinds = rw from-kinds (kinds-read (p .n) 0 (p .kind) _ noKinds (omega (arith, fits .bookings)) (λ j l u. kind-fits p (fine-entries p e) j (omega arith)))
+  the-bookings : bookingsIn (p .n) (sheetText p) ≡ record { judged = Fine; kind = readPlan p .kind; desk = readPlan p .desk }
+  unfolding bookingsIn readPlan
+  the-bookings =
+      rw from-bookings
+      (bookings-read (p .n) 0 (p .kind) (p .desk) _ noBookings noBookings (omega (arith, fits .bookings)) (λ j l u. booking-fits p (fine-entries p e) j (omega arith)))
 
   the-links : linksIn (p .n) (p .m) (sheetText p) ≡ record { judged = Fine; from = readPlan p .from; to = readPlan p .to }
   unfolding linksIn readPlan
@@ -107,7 +111,7 @@ module _ (p : Plan) (e : recordOf p ≡ R.Fine) where
   -- the sheet of a record that is fine reads as that record
   pub sheet-read : sheetOf (sheetText p) ≡ record { judged = Fine; plan = readPlan p }
   unfolding sheetOf bodyOf endOf planIn readPlan
-  sheet-read = rw (the-head, the-kinds, the-links, the-ways, eq-eqb _ _ (sym (sheet-length p)))
+  sheet-read = rw (the-head, the-bookings, the-links, the-ways, eq-eqb _ _ (sym (sheet-length p)))
 
   pub length-bound : length (sheetText p) ≤ longestSheet
   unfolding sheetLength
@@ -115,7 +119,7 @@ module _ (p : Plan) (e : recordOf p ≡ R.Fine) where
       let w : waysLength (p .a) (p .way) ≤ wayBytes mostBookings * p .a = ways-most _ (p .a) (p .way) refl in
       omega (arith, sheet-length p, fits .bookings, fits .links, fits .ways)
 
-pub longest-is : longestSheet ≡ 9838
+pub longest-is : longestSheet ≡ 10098
 longest-is = refl
 
 -- no accepted sheet is longer

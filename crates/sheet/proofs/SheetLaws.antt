@@ -19,10 +19,10 @@ use Rattle.lines.specs.Head.{headOf}
 use Rattle.lines.specs.Links.{Links, linksOf, noLinks}
 use Rattle.lines.specs.declared.Head.{Head}
 use Rattle.lines.specs.declared.Head.the-variants as H
-use Rattle.lines.specs.declared.Kinds.{Kinds}
+use Rattle.lines.specs.declared.Bookings.{Bookings}
 use Rattle.ways.specs.Ways.{waysOf, noWays}
 use Rattle.ways.specs.declared.Ways.{Ways}
-use Rattle.sheet.specs.Sheet.{kindsIn, linksIn, waysIn, planIn, refusedOf, endOf, bodyOf, afterHead, sheetOf}
+use Rattle.sheet.specs.Sheet.{bookingsIn, linksIn, waysIn, planIn, refusedOf, endOf, bodyOf, afterHead, sheetOf}
 use Rattle.sheet.specs.Outlined.{outlinedOf, noneRead, bodyLinks, linksAfter, linksRead}
 use Rattle.sheet.specs.declared.Sheet.{Sheet}
 use Rattle.sheet.specs.declared.Outlined.{Outlined}
@@ -50,41 +50,41 @@ Out t l r us vs = (r ≡ outlinedOf t) × ((us ≡ l .from) × (vs ≡ l .to))
 out : (t t′ : Sheet) (l l′ : Links) (r : Outlined) → r ≡ outlinedOf t → t ≡ t′ → l ≡ l′ → Out t′ l′ r (l .from) (l .to)
 out t t′ l l′ r e p q = (e ∙ ap outlinedOf p, (ap (λ (x : Links). x .from) q, ap (λ (x : Links). x .to) q))
 
-module _ (n m a : ℕ) (s : List ℕ) (k : Kinds) (e : k ≡ kindsIn n s) (b : Bool) (t : b ≡ isFine (k .judged)) where
-  pub kinds-refused : not b ≡ true → (us vs : List ℕ) → us ≡ noLinks → vs ≡ noLinks → (r : Outlined) → r ≡ outlinedOf (refusedOf (k .judged))
-      → Out (bodyOf n m a s) (bodyLinks n m s) r us vs
+module _ (n m a limit : ℕ) (s : List ℕ) (k : Bookings) (e : k ≡ bookingsIn n s) (b : Bool) (t : b ≡ isFine (k .judged)) where
+  pub bookings-refused : not b ≡ true → (us vs : List ℕ) → us ≡ noLinks → vs ≡ noLinks → (r : Outlined) → r ≡ outlinedOf (refusedOf (k .judged))
+      → Out (bodyOf n m a limit s) (bodyLinks n m s) r us vs
   unfolding bodyOf bodyLinks noneRead
-  kinds-refused q us vs eu ev r i = rw (eu, ev) (out (refusedOf (k .judged)) (bodyOf n m a s) noneRead (bodyLinks n m s) r i (rw (← e, ← t, not-true b q)) (rw (← e, ← t, not-true b q)))
+  bookings-refused q us vs eu ev r i = rw (eu, ev) (out (refusedOf (k .judged)) (bodyOf n m a limit s) noneRead (bodyLinks n m s) r i (rw (← e, ← t, not-true b q)) (rw (← e, ← t, not-true b q)))
 
   module _ (q : not b ≡ false) (l : Links) (f : l ≡ linksIn n m s) (c : Bool) (u : c ≡ isFine (l .judged)) where
     links-are : l ≡ bodyLinks n m s
     unfolding bodyLinks
     links-are = rw (← e, ← t, not-false b q) f
 
-    pub links-refused : not c ≡ true → (r : Outlined) → r ≡ outlinedOf (refusedOf (l .judged)) → Out (bodyOf n m a s) (bodyLinks n m s) r (l .from) (l .to)
+    pub links-refused : not c ≡ true → (r : Outlined) → r ≡ outlinedOf (refusedOf (l .judged)) → Out (bodyOf n m a limit s) (bodyLinks n m s) r (l .from) (l .to)
     unfolding bodyOf
-    links-refused p r i = out (refusedOf (l .judged)) (bodyOf n m a s) l (bodyLinks n m s) r i (rw (← e, ← t, not-false b q, ← f, ← u, not-true c p)) links-are
+    links-refused p r i = out (refusedOf (l .judged)) (bodyOf n m a limit s) l (bodyLinks n m s) r i (rw (← e, ← t, not-false b q, ← f, ← u, not-true c p)) links-are
 
     module _ (p : not c ≡ false) (w : Ways) (g : w ≡ waysIn n m a s) (d : Bool) (v : d ≡ isFine (w .judged)) where
-      pub ways-refused : not d ≡ true → (r : Outlined) → r ≡ outlinedOf (refusedOf (w .judged)) → Out (bodyOf n m a s) (bodyLinks n m s) r (l .from) (l .to)
+      pub ways-refused : not d ≡ true → (r : Outlined) → r ≡ outlinedOf (refusedOf (w .judged)) → Out (bodyOf n m a limit s) (bodyLinks n m s) r (l .from) (l .to)
       unfolding bodyOf
-      ways-refused o r i = out (refusedOf (w .judged)) (bodyOf n m a s) l (bodyLinks n m s) r i (rw (← e, ← t, not-false b q, ← f, ← u, not-false c p, ← g, ← v, not-true d o)) links-are
+      ways-refused o r i = out (refusedOf (w .judged)) (bodyOf n m a limit s) l (bodyLinks n m s) r i (rw (← e, ← t, not-false b q, ← f, ← u, not-false c p, ← g, ← v, not-true d o)) links-are
 
       module _ (o : not d ≡ false) where
         -- the plan as it was read
         abbrev whole : Plan
-        whole = record { n = n; m = m; a = a; kind = k .kind; from = l .from; to = l .to; way = w .way }
+        whole = record { n = n; m = m; a = a; limit = limit; kind = k .kind; desk = k .desk; from = l .from; to = l .to; way = w .way }
 
-        to-the-end : bodyOf n m a s ≡ cond (eqb (w .next) (length s)) (record { judged = Fine; plan = whole }) (refusedOf (Form (n + m + a + 2)))
+        to-the-end : bodyOf n m a limit s ≡ cond (eqb (w .next) (length s)) (record { judged = Fine; plan = whole }) (refusedOf (Form (n + m + a + 2)))
         unfolding bodyOf endOf planIn
         to-the-end = rw (← e, ← t, not-false b q, ← f, ← u, not-false c p, ← g, ← v, not-false d o)
 
-        pub bytes-remain : (w .next ≡ length s → ⊥) → (r : Outlined) → r ≡ outlinedOf (refusedOf (Form (n + m + a + 2))) → Out (bodyOf n m a s) (bodyLinks n m s) r (l .from) (l .to)
-        bytes-remain h r i = out (refusedOf (Form (n + m + a + 2))) (bodyOf n m a s) l (bodyLinks n m s) r i (rw (to-the-end, ne-eqb _ _ h)) links-are
+        pub bytes-remain : (w .next ≡ length s → ⊥) → (r : Outlined) → r ≡ outlinedOf (refusedOf (Form (n + m + a + 2))) → Out (bodyOf n m a limit s) (bodyLinks n m s) r (l .from) (l .to)
+        bytes-remain h r i = out (refusedOf (Form (n + m + a + 2))) (bodyOf n m a limit s) l (bodyLinks n m s) r i (rw (to-the-end, ne-eqb _ _ h)) links-are
 
         pub all-read : w .next ≡ length s
-            → Out (bodyOf n m a s) (bodyLinks n m s) (record { judged = Fine; outline = outlineOf whole }) (l .from) (l .to)
-        all-read h = out (record { judged = Fine; plan = whole }) (bodyOf n m a s) l (bodyLinks n m s) (record { judged = Fine; outline = outlineOf whole }) refl (rw (to-the-end, eq-eqb _ _ h)) links-are
+            → Out (bodyOf n m a limit s) (bodyLinks n m s) (record { judged = Fine; outline = outlineOf whole }) (l .from) (l .to)
+        all-read h = out (record { judged = Fine; plan = whole }) (bodyOf n m a limit s) l (bodyLinks n m s) (record { judged = Fine; outline = outlineOf whole }) refl (rw (to-the-end, eq-eqb _ _ h)) links-are
 
 -- ---- the head
 
@@ -106,8 +106,8 @@ module _ (s line : List ℕ) (h : Head) (p : line ≡ take headBytes s) (e : h �
     unfolding noneRead
     head-count g r i = rw (eu, ev) (out (refusedOf (Count 1)) (sheetOf s) noneRead (linksRead s) r i (rw (by-head, g)) (rw (links-by-head, g)))
 
-  module _ (n m a : ℕ) (g : h ≡ H.Counts n m a) where
-    pub head-right : (us vs : List ℕ) (r : Outlined) → Out (bodyOf n m a s) (bodyLinks n m s) r us vs → Out (sheetOf s) (linksRead s) r us vs
+  module _ (n m a limit : ℕ) (g : h ≡ H.Counts n m a limit) where
+    pub head-right : (us vs : List ℕ) (r : Outlined) → Out (bodyOf n m a limit s) (bodyLinks n m s) r us vs → Out (sheetOf s) (linksRead s) r us vs
     head-right us vs r o = rw (by-head, links-by-head, g) o
 
 -- ---- the whole sheet
@@ -130,9 +130,9 @@ past-same j t l r = elim (which (isFine j)) [
   | inr e ↦ rw e (refuses j l e)
 ]
 
-end-reads : (n m a : ℕ) (s : List ℕ) → Reading (endOf n m a s) (linksIn n m s)
+end-reads : (n m a limit : ℕ) (s : List ℕ) → Reading (endOf n m a limit s) (linksIn n m s)
 unfolding endOf planIn
-end-reads n m a s = elim (which (eqb (waysIn n m a s .next) (length s))) [
+end-reads n m a limit s = elim (which (eqb (waysIn n m a s .next) (length s))) [
   | inl e ↦ rw e (reads _ (linksIn n m s) refl refl)
   | inr e ↦ rw e (refuses (Form (n + m + a + 2)) (linksIn n m s) refl)
 ]
@@ -142,9 +142,9 @@ unfolding sheetOf linksRead bodyOf bodyLinks
 reading s = go (headOf (take headBytes s))
   where
     go : (h : Head) → Reading (afterHead h s) (linksAfter h s)
-    go (H.Counts n m a) =
-        past-reads (kindsIn n s .judged) _ (linksIn n m s) noneRead
-        (past-same (linksIn n m s .judged) _ (linksIn n m s) (past-same (waysIn n m a s .judged) (endOf n m a s) (linksIn n m s) (end-reads n m a s)))
+    go (H.Counts n m a limit) =
+        past-reads (bookingsIn n s .judged) _ (linksIn n m s) noneRead
+        (past-same (linksIn n m s .judged) _ (linksIn n m s) (past-same (waysIn n m a s .judged) (endOf n m a limit s) (linksIn n m s) (end-reads n m a limit s)))
     go H.Malformed = refuses (Form 1) noneRead refl
     go H.OutOfLimits = refuses (Count 1) noneRead refl
 

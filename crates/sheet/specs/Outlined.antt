@@ -12,7 +12,7 @@ use Rattle.lines.specs.Head.{headOf}
 use Rattle.lines.specs.Links.{Links, noLinks}
 use Rattle.lines.specs.declared.Head.{Head}
 use Rattle.lines.specs.declared.Head.the-variants.{Counts, Malformed, OutOfLimits}
-use Rattle.sheet.specs.Sheet.{kindsIn, linksIn}
+use Rattle.sheet.specs.Sheet.{bookingsIn, linksIn}
 use Rattle.sheet.specs.declared.Sheet.{Sheet}
 use Rattle.sheet.specs.declared.Outlined.{Outlined}
 
@@ -26,10 +26,10 @@ noneRead = record { judged = Fine; from = noLinks; to = noLinks }
 
 -- the links as far as they were read: none where a line before them is refused
 unfoldable pub bodyLinks : ℕ → ℕ → List ℕ → Links
-bodyLinks n m s = cond (isFine (kindsIn n s .judged)) (linksIn n m s) noneRead
+bodyLinks n m s = cond (isFine (bookingsIn n s .judged)) (linksIn n m s) noneRead
 
 abbrev pub linksAfter : Head → List ℕ → Links
-linksAfter (Counts n m a) s = bodyLinks n m s
+linksAfter (Counts n m a limit) s = bodyLinks n m s
 linksAfter Malformed s = noneRead
 linksAfter OutOfLimits s = noneRead
 

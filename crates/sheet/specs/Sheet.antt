@@ -13,18 +13,18 @@ use Rattle.plan.specs.declared.Judged.the-variants.{Fine, Form, Count}
 use Rattle.plan.specs.declared.Plan.{Plan}
 use Rattle.lines.specs.Form.{headBytes, linksPlace, waysPlace}
 use Rattle.lines.specs.Head.{headOf}
-use Rattle.lines.specs.Kinds.{kindsOf, noKinds}
+use Rattle.lines.specs.Bookings.{bookingsOf, noBookings}
 use Rattle.lines.specs.Links.{Links, linksOf, noLinks}
 use Rattle.lines.specs.declared.Head.{Head}
 use Rattle.lines.specs.declared.Head.the-variants.{Counts, Malformed, OutOfLimits}
-use Rattle.lines.specs.declared.Kinds.{Kinds}
+use Rattle.lines.specs.declared.Bookings.{Bookings}
 use Rattle.ways.specs.Ways.{waysOf, noWays}
 use Rattle.ways.specs.declared.Ways.{Ways}
 use Rattle.sheet.specs.declared.Sheet.{Sheet}
 
 -- what the three kinds of lines after the head give; the first way stands on line n + m + 2
-unfoldable pub kindsIn : ℕ → List ℕ → Kinds
-kindsIn n s = kindsOf n 0 (drop headBytes s) noKinds
+unfoldable pub bookingsIn : ℕ → List ℕ → Bookings
+bookingsIn n s = bookingsOf n 0 (drop headBytes s) noBookings noBookings
 
 unfoldable pub linksIn : ℕ → ℕ → List ℕ → Links
 linksIn n m s = linksOf n m 0 (drop (linksPlace n) s) 0 0 noLinks noLinks
@@ -33,12 +33,14 @@ unfoldable pub waysIn : ℕ → ℕ → ℕ → List ℕ → Ways
 waysIn n m a s = waysOf n (n + m + 2) a 0 (waysPlace n m) (drop (waysPlace n m) s) noWays
 
 -- the plan that an accepted sheet gives: its entries past the counts are 0
-unfoldable pub planIn : ℕ → ℕ → ℕ → List ℕ → Plan
-planIn n m a s = record {
+unfoldable pub planIn : ℕ → ℕ → ℕ → ℕ → List ℕ → Plan
+planIn n m a limit s = record {
   n = n;
   m = m;
   a = a;
-  kind = kindsIn n s .kind;
+  limit = limit;
+  kind = bookingsIn n s .kind;
+  desk = bookingsIn n s .desk;
   from = linksIn n m s .from;
   to = linksIn n m s .to;
   way = waysIn n m a s .way;
@@ -46,7 +48,7 @@ planIn n m a s = record {
 
 -- a refused sheet gives an empty plan
 unfoldable pub noPlan : Plan
-noPlan = record { n = 0; m = 0; a = 0; kind = noKinds; from = noLinks; to = noLinks; way = noWays }
+noPlan = record { n = 0; m = 0; a = 0; limit = 0; kind = noBookings; desk = noBookings; from = noLinks; to = noLinks; way = noWays }
 
 unfoldable pub refusedOf : Judged → Sheet
 refusedOf j = record { judged = j; plan = noPlan }
@@ -56,15 +58,15 @@ abbrev pub past : Judged → Sheet → Sheet
 past j next = cond (isFine j) next (refusedOf j)
 
 -- the ways are to end where the sheet ends; the line after the last way is line n + m + a + 2
-unfoldable pub endOf : ℕ → ℕ → ℕ → List ℕ → Sheet
-endOf n m a s = cond (eqb (waysIn n m a s .next) (length s)) (record { judged = Fine; plan = planIn n m a s }) (refusedOf (Form (n + m + a + 2)))
+unfoldable pub endOf : ℕ → ℕ → ℕ → ℕ → List ℕ → Sheet
+endOf n m a limit s = cond (eqb (waysIn n m a s .next) (length s)) (record { judged = Fine; plan = planIn n m a limit s }) (refusedOf (Form (n + m + a + 2)))
 
 -- the lines after the head
-unfoldable pub bodyOf : ℕ → ℕ → ℕ → List ℕ → Sheet
-bodyOf n m a s = past (kindsIn n s .judged) (past (linksIn n m s .judged) (past (waysIn n m a s .judged) (endOf n m a s)))
+unfoldable pub bodyOf : ℕ → ℕ → ℕ → ℕ → List ℕ → Sheet
+bodyOf n m a limit s = past (bookingsIn n s .judged) (past (linksIn n m s .judged) (past (waysIn n m a s .judged) (endOf n m a limit s)))
 
 abbrev pub afterHead : Head → List ℕ → Sheet
-afterHead (Counts n m a) s = bodyOf n m a s
+afterHead (Counts n m a limit) s = bodyOf n m a limit s
 afterHead Malformed s = refusedOf (Form 1)
 afterHead OutOfLimits s = refusedOf (Count 1)
 

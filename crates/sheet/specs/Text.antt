@@ -6,12 +6,13 @@ use Rattle.plan.specs.Limits.{mostBookings, mostLinks, mostWays}
 use Rattle.plan.specs.declared.Plan.{Plan}
 use Rattle.lines.specs.Form.{waysPlace}
 use Rattle.lines.specs.Head.{headText}
-use Rattle.lines.specs.Kinds.{kindsText}
+use Rattle.lines.specs.Bookings.{bookingsText}
 use Rattle.lines.specs.Links.{linksText}
 use Rattle.ways.specs.WayText.{wayBytes, waysText, waysLength}
 
 unfoldable pub sheetText : Plan → List ℕ
-sheetText p = headText (p .n) (p .m) (p .a) ++ (kindsText (p .n) 0 (p .kind) ++ (linksText (p .m) 0 (p .from) (p .to) ++ waysText (p .a) 0 (p .way)))
+sheetText p =
+    headText (p .n) (p .m) (p .a) (p .limit) ++ (bookingsText (p .n) 0 (p .kind) (p .desk) ++ (linksText (p .m) 0 (p .from) (p .to) ++ waysText (p .a) 0 (p .way)))
 
 -- how many bytes it has
 unfoldable pub sheetLength : Plan → ℕ

@@ -1,6 +1,6 @@
 // Reads a plan sheet: its plan, or the first line that is refused and why.
+use lines::Bookings;
 use lines::Head;
-use lines::Kinds;
 use plan::Judged;
 use plan::Outline;
 use plan::Plan;
@@ -10,7 +10,7 @@ ghost use Prim.Native.Nat.{_≤_};
 ghost use Rattle.plan.specs.declared.Judged.the-variants.{Fine};
 ghost use Rattle.plan.specs.Limits.{mostBookings, mostLinks, mostWays};
 ghost use Rattle.lines.specs.Links.{noLinks};
-ghost use Rattle.sheet.specs.Sheet.{kindsIn, waysIn, refusedOf, bodyOf, sheetOf};
+ghost use Rattle.sheet.specs.Sheet.{bookingsIn, waysIn, refusedOf, bodyOf, sheetOf};
 ghost use Rattle.sheet.specs.Outlined.{outlinedOf, bodyLinks, linksRead};
 
 // What a sheet is, and its plan, which is empty where the sheet is refused.
@@ -33,7 +33,9 @@ fn refused(j: Judged) -> Sheet
         n: 0,
         m: 0,
         a: 0,
+        limit: 0,
         kind: [0u8; 64],
+        desk: [0u8; 64],
         from: [0u8; 512],
         to: [0u8; 512],
         way: [0u64; 16],
@@ -49,7 +51,9 @@ fn no_outline(j: Judged) -> Outlined
         n: 0,
         m: 0,
         a: 0,
+        limit: 0,
         kind: [0u8; 64],
+        desk: [0u8; 64],
         way: [0u64; 16],
     };
     Outlined { judged: j, outline }
@@ -65,12 +69,12 @@ fn fine(plan: Plan) -> Sheet
     }
 }
 
-// The kinds of the n bookings of a sheet.
-fn kinds_in(s: &[u8], n: usize) -> Kinds
+// The kinds and desks of the n bookings of a sheet.
+fn bookings_in(s: &[u8], n: usize) -> Bookings
     requires { ⌜ n ≤ mostBookings ⌝ }
-    ensures { λ r. ⌜ r ≡ kindsIn n (now (s .entry)) ⌝ }
+    ensures { λ r. ⌜ r ≡ bookingsIn n (now (s .entry)) ⌝ }
 {
-    lines::read_kinds(s, lines::HEAD_BYTES, n)
+    lines::read_bookings(s, lines::HEAD_BYTES, n)
 }
 
 // The a ways of a sheet of n bookings and m links.
@@ -81,20 +85,22 @@ fn ways_in(s: &[u8], n: usize, m: usize, a: usize) -> Ways
     ways::read_ways(s, lines::ways_place(n, m), n, a, n + m + 2)
 }
 
-// Reads the lines after the head of a sheet with n bookings, m links and a ways; the links go into two lent arrays, which come empty.
+// Reads the lines after the head of a sheet with n bookings, m links and a ways, whose desks may have so many matters open; the links go
+// into two lent arrays, which come empty.
 fn read_body(
     s: &[u8],
     n: usize,
     m: usize,
     a: usize,
+    limit: usize,
     from: &mut [u8; 512],
     to: &mut [u8; 512],
 ) -> Outlined
     requires { ⌜ (n ≤ mostBookings) × (m ≤ mostLinks) × (a ≤ mostWays) × (now from ≡ noLinks) × (now to ≡ noLinks) ⌝ }
-    ensures told { λ r. ⌜ r ≡ outlinedOf (bodyOf n m a (now (s .entry))) ⌝ }
+    ensures told { λ r. ⌜ r ≡ outlinedOf (bodyOf n m a limit (now (s .entry))) ⌝ }
     ensures left { λ _. ⌜ (now (from .exit) ≡ bodyLinks n m (now (s .entry)) .from) × (now (to .exit) ≡ bodyLinks n m (now (s .entry)) .to) ⌝ }
 {
-    let k = kinds_in(s, n);
+    let k = bookings_in(s, n);
     let kj = k.judged;
     if !plan::is_fine(kj) {
         return no_outline(kj);
@@ -113,8 +119,17 @@ fn read_body(
         return no_outline(Judged::Form(n + m + a + 2));
     }
     let kind = k.kind;
+    let desk = k.desk;
     let way = w.way;
-    let outline = Outline { n, m, a, kind, way };
+    let outline = Outline {
+        n,
+        m,
+        a,
+        limit,
+        kind,
+        desk,
+        way,
+    };
     Outlined {
         judged: Judged::Fine,
         outline,
@@ -128,7 +143,7 @@ pub fn read_outline(s: &[u8], from: &mut [u8; 512], to: &mut [u8; 512]) -> Outli
     ensures left { λ _. ⌜ (now (from .exit) ≡ linksRead (now (s .entry)) .from) × (now (to .exit) ≡ linksRead (now (s .entry)) .to) ⌝ }
 {
     match lines::read_head(decimal::part(s, 0, lines::HEAD_BYTES)) {
-        Head::Counts(n, m, a) => read_body(s, n, m, a, from, to),
+        Head::Counts(n, m, a, limit) => read_body(s, n, m, a, limit, from, to),
         Head::Malformed => no_outline(Judged::Form(1)),
         Head::OutOfLimits => no_outline(Judged::Count(1)),
     }

@@ -7,7 +7,7 @@ ghost use mathlib.Core.Bool.{_&&_};
 ghost use Prim.Native.Nat.{_≤_};
 ghost use Rattle.bounded.specs.Bounded.{all};
 ghost use Rattle.run.specs.State.{standing};
-ghost use Rattle.run.specs.Sound.{codeKnown, codesKnown, wayKnown, restZero, allFounded, returningOutside, quiet, waysBefore, earlierDead, lostPending, sound};
+ghost use Rattle.run.specs.Sound.{codeKnown, codesKnown, wayKnown, restZero, allFounded, returningOutside, quiet, waysBefore, earlierDead, desksKept, lostPending, sound};
 
 // The first n codes are at most 4.
 fn codes_known(r: Run, n: usize) -> bool
@@ -115,6 +115,14 @@ fn lost_pending(g: Network, before: &[u64; 64], s: Standing, way: u64) -> bool
     sets::subset(standing::preceding(g, before, s.lost & way), s.held)
 }
 
+// No desk has more matters open than the limit.
+fn desks_kept(g: Network, s: Standing) -> bool
+    ensures { λ t. ⌜ t ≡ desksKept g s ⌝ }
+{
+    let desks = g.desk;
+    desks::all_in_limit(g.limit, &desks, s.matters())
+}
+
 // Whether the state is sound; s is how its bookings stand.
 pub fn is_sound(g: Network, r: Run, s: Standing) -> bool
     requires { ⌜ (g .n ≤ 64) × (g .a ≤ 16) × (s ≡ standing g r) ⌝ }
@@ -148,6 +156,9 @@ pub fn is_sound(g: Network, r: Run, s: Standing) -> bool
     }
     // Held firm bookings are in the current way (none for 0).
     if !sets::subset(s.held & g.firm, way) {
+        return false;
+    }
+    if !desks_kept(g, s) {
         return false;
     }
     lost_pending(g, &before, s, way)

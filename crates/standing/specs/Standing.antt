@@ -46,6 +46,10 @@ standingOf codes n = record {
   returning = coded codes n returning;
 }
 
+-- a matter is a requested or returning booking
+unfoldable pub matters : Standing → ℕ
+matters s = bitOr (s .requested) (s .returning)
+
 -- ---- one booking gets another code
 
 -- the set s with the set b put in, or taken out

@@ -7,7 +7,7 @@ ghost use Prim.Native.Nat.{_≤_, _<_};
 ghost use lib.Bits.{bitOr};
 ghost use Rattle.sets.specs.Sets.{member};
 ghost use Rattle.network.specs.Network.{wayOf};
-ghost use Rattle.standing.specs.Standing.{placed, moved, standingOf};
+ghost use Rattle.standing.specs.Standing.{placed, matters, moved, standingOf};
 ghost use Rattle.standing.specs.Ways.{preceding, lostIn, live, firstLive};
 
 // The codes of a booking.
@@ -54,6 +54,13 @@ impl Standing {
             lost,
             returning,
         }
+    }
+
+    // The open matters: what is requested or returning.
+    pub fn matters(self) -> u64
+        ensures { λ r. ⌜ r ≡ matters self ⌝ }
+    {
+        self.requested | self.returning
     }
 
     // Whether the way has a lost booking.

@@ -9,12 +9,14 @@ use borrow.Author.Tests.{eqb-true, eq-eqb}
 use Rattle.bounded.proofs.Bools.{_&_, and-l, and-r}
 use Rattle.plan.specs.Judging.{isFine}
 use Rattle.lines.specs.Form.{waysPlace}
+use Rattle.lines.specs.Head.{limitIn}
 use Rattle.sheet.specs.Sheet.{sheetOf}
-use Rattle.sheet.proofs.Accepted.{sheet-valid, sheet-letters, sheet-counts}
+use Rattle.sheet.proofs.Accepted.{sheet-valid, sheet-limit, sheet-letters, sheet-desks, sheet-counts}
 use Rattle.plan.proofs.Valid.{Valid}
 use Rattle.network.specs.FromPlan.{networkOf}
 use Rattle.network.specs.Network.{wayOf}
 use Rattle.network.proofs.Letters.{firm-is, repeats-is}
+use Rattle.network.proofs.Desks.{desk-is}
 use Rattle.ways.specs.Ways.{countsListed}
 use Rattle.ways.specs.WayText.{sizeAt}
 use Rattle.verdict.specs.Check.{check, verdictNumber}
@@ -48,6 +50,11 @@ module _ (s : List ℕ) (e : sheetPasses s ≡ true) where
   listed-sizes : waySizes (networkIn s) ≡ countsListed (sheetOf s .plan .a) (drop (waysPlace (sheetOf s .plan .n) (sheetOf s .plan .m)) s)
   unfolding waySizes waySize wayOf networkIn networkOf sizeAt
   listed-sizes = sym (sheet-counts s fine)
+
+  -- its limit is the head's last number
+  listed-limit : networkIn s .limit ≡ limitIn s
+  unfolding networkIn networkOf
+  listed-limit = sym (sheet-limit s fine)
 
   valid-plan : Valid (sheetOf s .plan)
   valid-plan = sheet-valid s fine
@@ -165,6 +172,8 @@ module _ (s : List ℕ) (e : sheetPasses s ≡ true) where
         demand-3 = rw (a, x) (g .demand-3);
         sizes = listed-sizes;
         kinds = λ b h. rw (sheet-letters s fine b h) (firm-is (sheetOf s .plan) valid-plan b h, repeats-is (sheetOf s .plan) valid-plan b h);
+        desks = λ d b l h. rw (sheet-desks s fine b h) (desk-is (sheetOf s .plan) d b l h);
+        limit = listed-limit;
         semi-atomic = λ z. rw a (g .semi-atomic (ap ends (sym x) ∙ z));
       }
 

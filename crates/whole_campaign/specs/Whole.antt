@@ -6,14 +6,18 @@
 use mathlib.Core.Path.{_≡_}
 use mathlib.Core.Bool.{true}
 use mathlib.Core.List.{List, map}
-use Prim.Native.Nat.{ℕ, _<_}
+use Prim.Native.Nat.{ℕ, suc, _<_}
+use lib.Dec.{eqb}
 use lib.ListN.{drop}
+use Rattle.sets.specs.Sets.{member}
+use Rattle.plan.specs.Limits.{mostDesks}
 use Rattle.ways.specs.Ways.{countsListed}
 use Rattle.lines.specs.Form.{waysPlace}
-use Rattle.lines.specs.Kinds.{letterOn}
+use Rattle.lines.specs.Head.{limitIn}
+use Rattle.lines.specs.Bookings.{letterOn, deskOn}
 use Rattle.sheet.specs.Sheet.{sheetOf}
 use Rattle.network.specs.FromPlan.{isFirm, isRepeating}
-use Rattle.network.specs.Network.{firm, repeats}
+use Rattle.network.specs.Network.{deskOf, firm, repeats}
 use Rattle.run.specs.State.{start}
 use Rattle.run.specs.Bytes.{bytesOf}
 use Rattle.guarantee.specs.Machine.{nextOrder}
@@ -32,11 +36,14 @@ pub record WholeCampaign (s bs : List ℕ) (cs : List Call) : Type 0 where
   -- the list with the kept replies given singly, if its calls are made instead, gets these answers and leaves the same state
   pub same-answers : answersOn s bs (singles (singlyOn s bs cs)) ≡ toldOn s bs cs
   pub same-state : leftOn s bs (singles (singlyOn s bs cs)) ≡ leftOn s bs cs
-  -- progress, flown, called off and the bound 4s + 2q, counted from the calls and their 32 bits
+  -- progress, flown, called off, the bound 4s + 2q and the desks' limit, counted from the calls and their 32 bits
   pub demand-3 : Demand3 (networkIn s) (singlyOn s bs cs) (toldOn s bs cs) (askedCall s (leftOn s bs cs) nextOrder)
   -- s in that bound is the sum of the counts that the sheet's way lines list
   pub sizes : waySizes (networkIn s) ≡ countsListed (sheetOf s .plan .a) (drop (waysPlace (sheetOf s .plan .n) (sheetOf s .plan .m)) s)
   -- by the letters on the sheet's booking lines, the firm ones in called off are P and R, and those whose refusals q counts are R and D
   pub kinds : (b : ℕ) → b < sheetOf s .plan .n → (firm (networkIn s) b ≡ isFirm (letterOn s b)) × (repeats (networkIn s) b ≡ isRepeating (letterOn s b))
+  -- by the numbers on the sheet's lines, these are the desks' bookings, and this is the limit of their open matters
+  pub desks : (d b : ℕ) → d < mostDesks → b < sheetOf s .plan .n → member (deskOf (networkIn s) d) b ≡ eqb (deskOn s b) (suc d)
+  pub limit : networkIn s .limit ≡ limitIn s
   -- a list after which next order gives the end is semi-atomic
   pub semi-atomic : ends (askedCall s (leftOn s bs cs) nextOrder) ≡ true → SemiAtomic (networkIn s) (singlyOn s bs cs) (toldOn s bs cs)

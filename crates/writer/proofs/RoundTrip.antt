@@ -21,7 +21,7 @@ use Rattle.plan.specs.declared.Judgement.{Judgement}
 use Rattle.plan.specs.declared.Judgement.the-variants as R
 use Rattle.bounded.proofs.Filled.{filled, filled-at, filled-past}
 use Rattle.plan.proofs.Valid.{valid}
-use Rattle.lines.specs.Kinds.{noKinds}
+use Rattle.lines.specs.Bookings.{noBookings}
 use Rattle.lines.specs.Links.{noLinks}
 use Rattle.ways.specs.Ways.{noWays}
 use Rattle.sheet.specs.Sheet.{sheetOf}
@@ -42,12 +42,14 @@ copied n most xs h = record {
 }
 
 pub plan-read : (p : Plan) → recordOf p ≡ R.Fine → ReadBack p (readPlan p)
-unfolding readPlan noKinds noLinks noWays
+unfolding readPlan noBookings noLinks noWays
 plan-read p e = let l = valid p e .counts in record {
   bookings = refl;
   links = refl;
   ways = refl;
+  limit = refl;
   kinds = copied (p .n) mostBookings (p .kind) (l .bookings);
+  desks = copied (p .n) mostBookings (p .desk) (l .bookings);
   starts = copied (p .m) mostLinks (p .from) (l .links);
   ends = copied (p .m) mostLinks (p .to) (l .links);
   sets = copied (p .a) mostWays (p .way) (l .ways);

@@ -15,9 +15,9 @@ use Rattle.plan.specs.declared.Judgement.{Judgement}
 use Rattle.plan.specs.declared.Judgement.the-variants as R
 use Rattle.lines.specs.Form.{headBytes, linksPlace, waysPlace}
 use Rattle.lines.specs.Head.{headText}
-use Rattle.lines.specs.Kinds.{kindsText}
+use Rattle.lines.specs.Bookings.{bookingsText}
 use Rattle.lines.specs.Links.{linksText}
-use Rattle.lines.proofs.Lengths.{head-length, kinds-length, links-length}
+use Rattle.lines.proofs.Lengths.{head-length, bookings-length, links-length}
 use Rattle.ways.specs.WayText.{waysText}
 use Rattle.sheet.specs.Text.{sheetText, sheetLength}
 use Rattle.sheet.proofs.ReadSheet.{sheet-length}
@@ -28,16 +28,16 @@ use Rattle.writer.specs.declared.Written.the-variants.{Length, Count, Se
 -- ---- the four kinds of lines, stored one after the other
 
 pub all-lines : (p : Plan) (d x y z v : List ℕ) (links ways : ℕ) → links ≡ linksPlace (p .n) → ways ≡ waysPlace (p .n) (p .m)
-    → x ≡ sets d 0 (headText (p .n) (p .m) (p .a)) → y ≡ sets x headBytes (kindsText (p .n) 0 (p .kind)) → z ≡ sets y links (linksText (p .m) 0 (p .from) (p .to))
+    → x ≡ sets d 0 (headText (p .n) (p .m) (p .a) (p .limit)) → y ≡ sets x headBytes (bookingsText (p .n) 0 (p .kind) (p .desk)) → z ≡ sets y links (linksText (p .m) 0 (p .from) (p .to))
     → v ≡ sets z ways (waysText (p .a) 0 (p .way)) → v ≡ sets d 0 (sheetText p)
 unfolding sheetText
 all-lines p d x y z v links ways q r f g h i =
-    let hd : List ℕ = headText (p .n) (p .m) (p .a) in
-    let k : List ℕ = kindsText (p .n) 0 (p .kind) in
+    let hd : List ℕ = headText (p .n) (p .m) (p .a) (p .limit) in
+    let k : List ℕ = bookingsText (p .n) 0 (p .kind) (p .desk) in
     let l : List ℕ = linksText (p .m) 0 (p .from) (p .to) in
     let w : List ℕ = waysText (p .a) 0 (p .way) in
-    let a1 : 0 + length (headText (p .n) (p .m) (p .a)) ≡ headBytes = rw (head-length (p .n) (p .m) (p .a)) in
-    let a2 : headBytes + length (kindsText (p .n) 0 (p .kind)) ≡ links = rw kinds-length (sym q) in
+    let a1 : 0 + length (headText (p .n) (p .m) (p .a) (p .limit)) ≡ headBytes = rw (head-length (p .n) (p .m) (p .a) (p .limit)) in
+    let a2 : headBytes + length (bookingsText (p .n) 0 (p .kind) (p .desk)) ≡ links = rw bookings-length (sym q) in
     let a3 : links + length (linksText (p .m) 0 (p .from) (p .to)) ≡ ways = rw (q, links-length) (sym r) in
     let s1 : sets d 0 (hd ++ (k ++ (l ++ w))) ≡ sets x headBytes (k ++ (l ++ w)) = sets-append d 0 hd (k ++ (l ++ w)) ∙ rw (a1, f) in
     let s2 : sets x headBytes (k ++ (l ++ w)) ≡ sets y links (l ++ w) = sets-append x headBytes k (l ++ w) ∙ rw (a2, g) in

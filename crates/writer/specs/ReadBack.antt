@@ -15,7 +15,9 @@ pub record ReadBack (p q : Plan) : Type 0 where
   pub bookings : q .n ≡ p .n
   pub links : q .m ≡ p .m
   pub ways : q .a ≡ p .a
+  pub limit : q .limit ≡ p .limit
   pub kinds : Copied (p .n) (p .kind) (q .kind)
+  pub desks : Copied (p .n) (p .desk) (q .desk)
   pub starts : Copied (p .m) (p .from) (q .from)
   pub ends : Copied (p .m) (p .to) (q .to)
   pub sets : Copied (p .a) (p .way) (q .way)

@@ -32,11 +32,12 @@ fn write_lines(buf: &mut [u8], p: Plan)
     ensures { λ _. ⌜ now (buf .exit) ≡ sets (now (buf .entry)) 0 (sheetText p) ⌝ }
 {
     let kind = p.kind;
+    let desk = p.desk;
     let from = p.from;
     let to = p.to;
     let way = p.way;
-    line_writer::write_head(buf, p.n, p.m, p.a);
-    line_writer::write_kinds(buf, lines::HEAD_BYTES, p.n, kind);
+    line_writer::write_head(buf, p.n, p.m, p.a, p.limit);
+    line_writer::write_bookings(buf, lines::HEAD_BYTES, p.n, kind, desk);
     line_writer::write_links(buf, lines::links_place(p.n), p.m, from, to);
     ways::write_ways(buf, lines::ways_place(p.n, p.m), p.a, way);
 }

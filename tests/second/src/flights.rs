@@ -2,15 +2,13 @@
 //! journals with what follows from them.
 
 use crate::plan::{self, Kind, Plan};
-use crate::run::{State, STATE_LENGTH};
+use crate::run::{self, State, STATE_LENGTH};
+use crate::written_desks::{self, passed_over_request, vans};
 
-/// A plan from its kinds as letters, its links and its ways.
+/// A plan from its kinds as letters, its links and its ways, all at desk 1 with limit 64.
 pub fn plan_of(kinds: &str, links: &[(usize, usize)], ways: &[&[usize]]) -> Plan {
-    Plan {
-        kinds: kinds.bytes().map(|letter| Kind::of_letter(letter).unwrap()).collect(),
-        links: links.to_vec(),
-        ways: ways.iter().map(|way| way.to_vec()).collect(),
-    }
+    let kinds = kinds.bytes().map(|letter| Kind::of_letter(letter).unwrap()).collect();
+    Plan::at_one_desk(kinds, links.to_vec(), ways.iter().map(|way| way.to_vec()).collect())
 }
 
 /// A sheet and what check says of it: refusal and place, or (0, 0) if it passes.
@@ -54,7 +52,7 @@ pub fn middle_sized() -> Plan {
 
 /// The named sheets, small enough to be damaged at every byte.
 pub fn named() -> Vec<Flight> {
-    vec![
+    let at_one_desk = [
         flight("tanker", tanker(), (0, 0)),
         flight("tanker without refuge", plan_of("CPC", &[(1, 2), (2, 3)], &[&[1, 2, 3]]), (8, 259)),
         flight("two pivots", plan_of("PP", &[], &[&[1, 2]]), (8, 257)),
@@ -74,7 +72,8 @@ pub fn named() -> Vec<Flight> {
         flight("chase that may be lost", chase('C'), (8, 258)),
         flight("two repeatables", plan_of("RR", &[], &[&[1], &[2]]), (0, 0)),
         flight("middle-sized", middle_sized(), (0, 0)),
-    ]
+    ];
+    at_one_desk.into_iter().chain(written_desks::passing()).collect()
 }
 
 /// n bookings C in one way, and the first m links that rise.
@@ -142,7 +141,7 @@ pub fn longest() -> Plan {
 pub fn boundaries() -> Vec<Flight> {
     let mut overlong = flight("a byte after the longest sheet", longest(), (1, 594));
     overlong.sheet.push(b'\n');
-    vec![
+    let counts = [
         Flight { name: "empty sheet", sheet: Vec::new(), verdict: (1, 1) },
         flight("64 bookings", returnables(64, 0), (0, 0)),
         flight("65 bookings", returnables(65, 0), (2, 1)),
@@ -162,7 +161,8 @@ pub fn boundaries() -> Vec<Flight> {
         flight("way 16 is the refuge", late_ways(14, "PR", &[&[15, 16], &[16]]), (0, 0)),
         flight("longest sheet", longest(), (7, 2)),
         overlong,
-    ]
+    ];
+    counts.into_iter().chain(written_desks::fields()).collect()
 }
 
 /// A state that breaks one sentence of soundness and no other.
@@ -189,7 +189,9 @@ pub fn unsound_states() -> Vec<Unsound> {
     let repeatables = || plan_of("RR", &[], &[&[1], &[2]]);
     let mut last_byte = unsound(tanker(), &[1], "bytes past the bookings are zero");
     last_byte.state[64] = 3;
-    vec![
+    let above = written_desks::states().into_iter().filter(|judged| !judged.sound);
+    let above = above.map(|judged| unsound(judged.plan, &judged.state, run::ABOVE_THE_LIMIT));
+    let others = [
         unsound(tanker(), &[1, 5], "codes exist"),
         unsound(tanker(), &[1, 0, 0, 0, 255], "codes exist"),
         unsound(tanker(), &[3, 3], "current way exists"),
@@ -213,14 +215,15 @@ pub fn unsound_states() -> Vec<Unsound> {
         unsound(repeatables(), &[0, 2, 2], "held firm are in the current way"),
         unsound(linked(), &[1, 0, 3, 1], "lost in the current way stand on held"),
         unsound(tanker(), &[1, 3], "lost in the current way means requested"),
-    ]
+    ];
+    others.into_iter().chain(above).collect()
 }
 
 /// A sheet for each refusal, 1 to 8, with its verdict.
 pub fn refused_sheets() -> Vec<(&'static str, Vec<u8>, (u32, u32))> {
     let refused = named().into_iter().chain(boundaries()).filter(|flight| flight.verdict != (0, 0));
     let mut sheets: Vec<_> = refused.map(|flight| (flight.name, flight.sheet, flight.verdict)).collect();
-    let out_of_sequence = b"P   1   0   1\nB   2 C\nA   1   1\n";
+    let out_of_sequence = b"P   1   0   1  64\nB   2 C   1\nA   1   1\n";
     sheets.push(("number out of sequence", out_of_sequence.to_vec(), (3, 2)));
     sheets
 }
@@ -254,7 +257,7 @@ fn step_by_step(plan: &Plan, steps: &[(&str, &[u8])]) -> Vec<Journal> {
 }
 
 /// The Tanker's drill; its tanker refused, and a return kept; a pivot refused
-/// while a request is open; a chase aircraft that repeats and returns.
+/// while a request is open; a chase aircraft that repeats and returns; a full desk.
 fn right_journals() -> Vec<Journal> {
     let drill: [(&str, &[u8]); 11] = [
         ("", &[1, 0, 0, 0, 0]),
@@ -289,11 +292,22 @@ fn right_journals() -> Vec<Journal> {
         ("Q4", &[2, 2, 0, 3, 1]),
         ("Y4", &[2, 2, 0, 3, 2]),
     ];
+    let vans_in_turn: [(&str, &[u8]); 4] =
+        [("Q1", &[1, 1]), ("N1 Q1 Y1", &[1, 2]), ("Q2", &[1, 2, 1]), ("Y2", &[1, 2, 2])];
+    let returned_in_turn: [(&str, &[u8]); 4] = [
+        ("Q1 Q3", &[1, 1, 0, 1]),
+        ("Y1 Q2 Y2", &[1, 2, 2, 1]),
+        ("N3 U1 K1 U1", &[0, 4, 2, 3]),
+        ("G1 U2", &[0, 0, 4, 3]),
+    ];
     let pivot_and_repeatable = plan_of("PR", &[], &[&[1, 2], &[2]]);
     let mut journals = step_by_step(&tanker(), &drill);
     journals.extend(step_by_step(&tanker(), &refused_tanker));
     journals.extend(step_by_step(&pivot_and_repeatable, &open_request));
     journals.extend(step_by_step(&chase('D'), &chase_back));
+    journals.extend(step_by_step(&vans("DD", 1), &vans_in_turn));
+    journals.extend(step_by_step(&vans("DD", 2), &[("Q1 Q2", &[1, 1, 1])]));
+    journals.extend(step_by_step(&passed_over_request(), &returned_in_turn));
     journals
 }
 
@@ -331,6 +345,11 @@ fn wrong_journals() -> Vec<Journal> {
         wrong(&plan_of("PR", &[], &[&[1, 2], &[2]]), "Q1 Q2 N1 Q2", 4),
         wrong(&plan_of("CCC", &[], &[&[1, 2, 3]]), "Q1 Q2 Q3 Y1 Y2 N3 U2", 7),
         wrong(&plan_of("CCC", &[(1, 2)], &[&[1, 2, 3]]), "Q1 Q3 Y1 Q2 Y2 N3 U1", 7),
+        wrong(&vans("DD", 1), "Q1 Q2", 2),
+        wrong(&vans("DD", 2), "Q1 Y1 Q2 Q2", 4),
+        wrong(&passed_over_request(), "Q1 Q2", 2),
+        wrong(&passed_over_request(), "Q1 Q3 Y1 Q2 Y2 N3 U1 U2", 8),
+        wrong(&passed_over_request(), "Q1 Q3 Y1 Q2 Y2 N3 U2", 7),
     ]
 }
 
@@ -392,7 +411,6 @@ mod tests {
     use super::*;
     use crate::calls::{self, *};
     use crate::drill::drill;
-    use crate::run;
 
     const TANKER_PRINTS: &str =
         "Q   1\nW   0\nQ   2\nW   0\nQ   3\nW   0\nQ   4\nW   0\nQ   4\nW   0\nE   2\n";

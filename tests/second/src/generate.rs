@@ -2,7 +2,7 @@
 
 use crate::check::{self, Network};
 use crate::dice::Dice;
-use crate::plan::{Kind, Plan, MOST_LINKS, MOST_WAYS};
+use crate::plan::{Kind, Plan, HIGHEST_LIMIT, MOST_DESKS, MOST_LINKS, MOST_WAYS};
 
 /// How big the plans are to be.
 #[derive(Clone, Copy, Debug)]
@@ -38,7 +38,23 @@ pub fn random_plan(dice: &mut Dice, size: Size) -> Plan {
         fill_links(dice, &mut plan);
     }
     tidy(&mut plan);
-    plan
+    give_desks(dice, plan)
+}
+
+/// Random desks, often few different ones, and a limit that is often reached.
+pub fn give_desks(dice: &mut Dice, plan: Plan) -> Plan {
+    let mut numbers: Vec<usize> = (1..=MOST_DESKS).collect();
+    dice.shuffle(&mut numbers);
+    numbers.truncate(dice.pick(&[1, 1, 2, 2, 3, 4, MOST_DESKS]));
+    let desks: Vec<usize> = plan.bookings().map(|_| dice.pick(&numbers)).collect();
+    let limit = match dice.below(20) {
+        0..=7 => 1,
+        8..=12 => 2,
+        13..=15 => 3,
+        16..=17 => HIGHEST_LIMIT,
+        _ => dice.between(1, HIGHEST_LIMIT),
+    };
+    plan.with_desks(&desks, limit)
 }
 
 /// A random order of bookings, random links along it, random closed ways.
@@ -60,7 +76,7 @@ fn loose(dice: &mut Dice, n: usize, size: Size) -> Plan {
     let ways = dice.between(1, size.ways);
     let share = dice.pick(&[20, 50, 80, 100]);
     let ways = (0..ways).map(|_| (1..=n).filter(|_| dice.percent(share)).collect()).collect();
-    let mut plan = Plan { kinds, links, ways };
+    let mut plan = Plan::at_one_desk(kinds, links, ways);
     use_every_booking(dice, &mut plan);
     close_ways(&mut plan);
     tidy(&mut plan);
@@ -112,7 +128,7 @@ impl Ladder {
 /// returnables alone. Any of these may be D.
 fn ladder(dice: &mut Dice, n: usize, size: Size) -> Plan {
     let kinds = (0..n).map(|_| returnable(dice)).collect();
-    let plan = Plan { kinds, ..Plan::default() };
+    let plan = Plan::at_one_desk(kinds, Vec::new(), Vec::new());
     let mut ladder = Ladder { numbers: numbering(dice, n), plan };
     let spare = ladder.numbers.split_off(n - dice.between(0, n / 3));
     let width = 1 + n / 12;
@@ -327,6 +343,14 @@ fn spoil_lines(dice: &mut Dice, text: &[u8]) -> Vec<u8> {
     lines.concat()
 }
 
+/// Where the numbers of a line begin: a kind stands before a booking's desk.
+fn fields_of(line: &[u8]) -> Vec<usize> {
+    if line.starts_with(b"B") && line.len() == 11 {
+        return vec![1, 7];
+    }
+    (0..line.len().saturating_sub(1) / 4).map(|field| 1 + 4 * field).collect()
+}
+
 /// Puts another number, or something like one, into four columns.
 fn spoil_field(dice: &mut Dice, text: &mut [u8]) {
     let starts: Vec<usize> = (0..text.len()).filter(|&at| at == 0 || text[at - 1] == b'\n').collect();
@@ -337,14 +361,14 @@ fn spoil_field(dice: &mut Dice, text: &mut [u8]) {
         _ => dice.pick(&starts),
     };
     let end = line + text[line..].iter().position(|&byte| byte == b'\n').unwrap_or(0);
-    let fields = (end - line).saturating_sub(1) / 4;
-    if fields == 0 {
+    let fields = fields_of(&text[line..end]);
+    if fields.is_empty() {
         return;
     }
-    let at = line + 1 + 4 * dice.below(fields);
+    let at = line + dice.pick(&fields);
     let odd = [
         "   0", "  01", "0001", "1   ", " 1  ", "    ", "  -1", "  +1", "  65", " 513", "  17", "9999",
-        "0000", "  1 ", "1234",
+        "0000", "  1 ", "1234", "   9", "  64", "   X",
     ];
     let field =
         if dice.percent(50) { dice.pick(&odd).to_string() } else { format!("{:4}", dice.between(0, 70)) };
@@ -404,6 +428,20 @@ mod tests {
             let all: usize = hits.values().sum();
             assert!("CPRD".chars().all(|letter| hits[&letter] * 40 > all));
         }
+    }
+
+    #[test]
+    fn desks_are_often_few_and_limits_often_small() {
+        let plans: Vec<Plan> =
+            (0..2000).map(|round| random_plan(&mut Dice::for_round(1, round), MIDDLE)).collect();
+        let share = |has: &dyn Fn(&Plan) -> bool| plans.iter().filter(|plan| has(plan)).count();
+        for desk in 1..=MOST_DESKS {
+            assert!(share(&|plan| plan.desks.contains(&desk)) > 300, "desk {desk}");
+        }
+        for (limit, fewest) in [(1, 600), (2, 400), (3, 200), (HIGHEST_LIMIT, 150)] {
+            assert!(share(&|plan| plan.limit == limit) > fewest, "limit {limit}");
+        }
+        assert!(share(&|plan| plan.desks.iter().all(|&desk| desk == plan.desks[0])) > 400);
     }
 
     #[test]

@@ -12,6 +12,8 @@ pub mod drill;
 pub mod flights;
 pub mod generate;
 pub mod journal;
+pub mod old;
 pub mod plan;
 pub mod run;
 pub mod written_blocks;
+pub mod written_desks;

@@ -3,7 +3,9 @@
 pub const MOST_BOOKINGS: usize = 64;
 pub const MOST_LINKS: usize = 512;
 pub const MOST_WAYS: usize = 16;
-pub const LONGEST_SHEET: usize = 9838;
+pub const MOST_DESKS: usize = 8;
+pub const HIGHEST_LIMIT: usize = 64;
+pub const LONGEST_SHEET: usize = 10_098;
 
 const LINE_FEED: u8 = 10;
 
@@ -63,17 +65,33 @@ impl Kind {
     }
 }
 
-#[derive(Clone, Debug, Default, PartialEq, Eq)]
+#[derive(Clone, Debug, PartialEq, Eq)]
 pub struct Plan {
     /// The kind of booking b stands at b - 1.
     pub kinds: Vec<Kind>,
+    /// The desk of booking b stands at b - 1.
+    pub desks: Vec<usize>,
     /// (u, v): u comes before v.
     pub links: Vec<(usize, usize)>,
     /// Way i stands at i - 1; the most wanted is first.
     pub ways: Vec<Vec<usize>>,
+    /// The most matters that a desk may have open.
+    pub limit: usize,
 }
 
 impl Plan {
+    /// All at one desk, which is never full: a campaign as it is without desks.
+    pub fn at_one_desk(kinds: Vec<Kind>, links: Vec<(usize, usize)>, ways: Vec<Vec<usize>>) -> Plan {
+        Plan { desks: vec![1; kinds.len()], kinds, links, ways, limit: HIGHEST_LIMIT }
+    }
+
+    /// The same plan with other desks and another limit.
+    pub fn with_desks(mut self, desks: &[usize], limit: usize) -> Plan {
+        self.desks = desks.to_vec();
+        self.limit = limit;
+        self
+    }
+
     /// The number of bookings, n.
     pub fn count(&self) -> usize {
         self.kinds.len()
@@ -81,6 +99,10 @@ impl Plan {
 
     pub fn kind(&self, booking: usize) -> Kind {
         self.kinds[booking - 1]
+    }
+
+    pub fn desk(&self, booking: usize) -> usize {
+        self.desks[booking - 1]
     }
 
     pub fn bookings(&self) -> std::ops::RangeInclusive<usize> {
@@ -119,6 +141,14 @@ pub fn number_in_columns(columns: &[u8]) -> Option<usize> {
     Some(digits.iter().fold(0, |value, digit| 10 * value + usize::from(digit - b'0')))
 }
 
+/// The four numbers of the head.
+struct Head {
+    n: usize,
+    m: usize,
+    a: usize,
+    limit: usize,
+}
+
 /// Reads on from a place in the sheet and knows the line it is on.
 struct Reader<'a> {
     bytes: &'a [u8],
@@ -151,29 +181,32 @@ impl<'a> Reader<'a> {
         number_in_columns(columns).ok_or(Refusal { number: 1, place: self.line })
     }
 
-    fn head(&mut self) -> Result<(usize, usize, usize), Refusal> {
+    fn head(&mut self) -> Result<Head, Refusal> {
         self.line += 1;
         self.mark(b'P')?;
-        let (n, m, a) = (self.number()?, self.number()?, self.number()?);
+        let (n, m, a, limit) = (self.number()?, self.number()?, self.number()?, self.number()?);
         self.mark(LINE_FEED)?;
         self.demand((1..=MOST_BOOKINGS).contains(&n), 2)?;
         self.demand(m <= MOST_LINKS, 2)?;
         self.demand((1..=MOST_WAYS).contains(&a), 2)?;
-        Ok((n, m, a))
+        self.demand((1..=HIGHEST_LIMIT).contains(&limit), 2)?;
+        Ok(Head { n, m, a, limit })
     }
 
-    /// A wrong letter of kind is a fault of form, so it comes before the
-    /// number out of sequence.
-    fn booking(&mut self, due: usize) -> Result<Kind, Refusal> {
+    /// Kind and desk. A wrong letter of kind is a fault of form, so it comes
+    /// before the number out of sequence and the wrong desk.
+    fn booking(&mut self, due: usize) -> Result<(Kind, usize), Refusal> {
         self.line += 1;
         self.mark(b'B')?;
         let number = self.number()?;
         self.mark(b' ')?;
         let kind = Kind::of_letter(self.take(1)?[0]);
         self.demand(kind.is_some(), 1)?;
+        let desk = self.number()?;
         self.mark(LINE_FEED)?;
         self.demand(number == due, 3)?;
-        Ok(kind.unwrap())
+        self.demand((1..=MOST_DESKS).contains(&desk), 3)?;
+        Ok((kind.unwrap(), desk))
     }
 
     fn link(&mut self, n: usize, before: Option<(usize, usize)>) -> Result<(usize, usize), Refusal> {
@@ -211,10 +244,12 @@ impl<'a> Reader<'a> {
 /// The plan on a sheet, or the first refusal among 1, 2, 3 with its line.
 pub fn read(bytes: &[u8]) -> Result<Plan, Refusal> {
     let mut reader = Reader { bytes, at: 0, line: 0 };
-    let mut plan = Plan::default();
-    let (n, m, a) = reader.head()?;
+    let Head { n, m, a, limit } = reader.head()?;
+    let mut plan = Plan { kinds: Vec::new(), desks: Vec::new(), links: Vec::new(), ways: Vec::new(), limit };
     for number in 1..=n {
-        plan.kinds.push(reader.booking(number)?);
+        let (kind, desk) = reader.booking(number)?;
+        plan.kinds.push(kind);
+        plan.desks.push(desk);
     }
     for _ in 0..m {
         let before = plan.links.last().copied();
@@ -231,9 +266,9 @@ pub fn read(bytes: &[u8]) -> Result<Plan, Refusal> {
 /// sheets can be written for tests.
 pub fn write(plan: &Plan) -> String {
     let (n, m, a) = (plan.kinds.len(), plan.links.len(), plan.ways.len());
-    let mut text = format!("P{n:4}{m:4}{a:4}\n");
-    for (at, kind) in plan.kinds.iter().enumerate() {
-        text += &format!("B{:4} {}\n", at + 1, kind.letter());
+    let mut text = format!("P{n:4}{m:4}{a:4}{:4}\n", plan.limit);
+    for (at, (kind, desk)) in plan.kinds.iter().zip(&plan.desks).enumerate() {
+        text += &format!("B{:4} {}{desk:4}\n", at + 1, kind.letter());
     }
     for (u, v) in &plan.links {
         text += &format!("L{u:4}{v:4}\n");
@@ -269,8 +304,10 @@ mod tests {
 
     #[test]
     fn a_sheet_is_read_back() {
-        let text = "P   4   1   2\nB   1 C\nB   2 R\nB   3 D\nB   4 P\nL   1   2\nA   1   1\nA   2   1   2\n";
+        let bookings = "B   1 C   8\nB   2 R   1\nB   3 D   5\nB   4 P   1\n";
+        let text = format!("P   4   1   2   3\n{bookings}L   1   2\nA   1   1\nA   2   1   2\n");
         let plan = read(text.as_bytes()).unwrap();
+        assert_eq!((&plan.desks[..], plan.limit), (&[8, 1, 5, 1][..], 3));
         assert_eq!(plan.links, [(1, 2)]);
         assert_eq!(plan.ways, [vec![1], vec![1, 2]]);
         assert_eq!(write(&plan), text);
@@ -278,7 +315,7 @@ mod tests {
 
     #[test]
     fn bytes_that_end_early_or_remain() {
-        let text = "P   1   0   1\nB   1 C\nA   1   1\n";
+        let text = "P   1   0   1  64\nB   1 C   1\nA   1   1\n";
         assert!(read(text.as_bytes()).is_ok());
         for length in 0..text.len() {
             let line = 1 + text[..length].matches('\n').count() as u32;
@@ -289,22 +326,22 @@ mod tests {
 
     #[test]
     fn one_two_three_on_a_line() {
-        assert_eq!(refused("P   0   0   1\n"), (2, 1));
-        assert_eq!(refused("P   0   0   1"), (1, 1));
-        assert_eq!(refused("P   1   0   1\nB   2 X\n"), (1, 2));
-        assert_eq!(refused("P   1   0   1\nB   1 d\n"), (1, 2));
-        assert_eq!(refused("P   1   0   1\nB   2 C\n"), (3, 2));
-        assert_eq!(refused("P   1   0   1\nB   1 C\nA   0"), (2, 3));
-        assert_eq!(refused("P   1   0   1\nB   1 C\nA   2   1"), (2, 3));
-        assert_eq!(refused("P   1   0   1\nB   1 C\nA   1   2"), (1, 3));
-        assert_eq!(refused("P   1   0   1\nB   1 C\nA   1   2\n"), (3, 3));
-        assert_eq!(refused("P   1   0   1\nB   1 C\nA   1   1   2\n"), (1, 3));
-        assert_eq!(refused("P   1   1   1\nB   1 C\nL   1   0\n"), (3, 3));
+        assert_eq!(refused("P   0   0   1  64\n"), (2, 1));
+        assert_eq!(refused("P   0   0   1  64"), (1, 1));
+        assert_eq!(refused("P   1   0   1  64\nB   2 X   1\n"), (1, 2));
+        assert_eq!(refused("P   1   0   1  64\nB   1 d   1\n"), (1, 2));
+        assert_eq!(refused("P   1   0   1  64\nB   2 C   1\n"), (3, 2));
+        assert_eq!(refused("P   1   0   1  64\nB   1 C   1\nA   0"), (2, 3));
+        assert_eq!(refused("P   1   0   1  64\nB   1 C   1\nA   2   1"), (2, 3));
+        assert_eq!(refused("P   1   0   1  64\nB   1 C   1\nA   1   2"), (1, 3));
+        assert_eq!(refused("P   1   0   1  64\nB   1 C   1\nA   1   2\n"), (3, 3));
+        assert_eq!(refused("P   1   0   1  64\nB   1 C   1\nA   1   1   2\n"), (1, 3));
+        assert_eq!(refused("P   1   1   1  64\nB   1 C   1\nL   1   0\n"), (3, 3));
     }
 
     #[test]
     fn links_and_ways_rise_strictly() {
-        let head = "P   2   2   1\nB   1 C\nB   2 C\n";
+        let head = "P   2   2   1  64\nB   1 C   1\nB   2 C   1\n";
         assert_eq!(refused(&format!("{head}L   1   2\nL   1   2\n")), (3, 5));
         assert_eq!(refused(&format!("{head}L   2   1\nL   1   2\n")), (3, 5));
         assert_eq!(refused(&format!("{head}L   1   1\nL   1   2\nA   2   2   1\n")), (3, 6));

@@ -1,6 +1,7 @@
 //! The run: soundness of a state, the next order, and replies.
 
 use crate::check::Network;
+use crate::plan::MOST_DESKS;
 
 pub const STATE_LENGTH: usize = 65;
 
@@ -52,7 +53,18 @@ fn is_live(network: &Network, state: &State, way: usize) -> bool {
         && held_firm(network, state).iter().all(|b| bookings.contains(b))
 }
 
-fn lost_in_current_way(network: &Network, state: &State) -> Vec<usize> {
+/// What a desk has open: its bookings that are requested or returning.
+pub fn matters_of(network: &Network, state: &State, desk: usize) -> usize {
+    let open = |&b: &usize| state[b] == REQUESTED || state[b] == RETURNING;
+    network.plan.bookings().filter(open).filter(|&b| network.plan.desk(b) == desk).count()
+}
+
+/// Its desk takes nothing more on.
+fn is_at_full_desk(network: &Network, state: &State, booking: usize) -> bool {
+    matters_of(network, state, network.plan.desk(booking)) >= network.plan.limit
+}
+
+pub fn lost_in_current_way(network: &Network, state: &State) -> Vec<usize> {
     let lost = |b: &usize| state[*b] == LOST;
     network.plan.way(current_way(state)).iter().copied().filter(lost).collect()
 }
@@ -123,9 +135,16 @@ fn lost_in_current_way_means_requested(network: &Network, state: &State) -> bool
     lost_in_current_way(network, state).is_empty() || any_with_code(network, state, REQUESTED)
 }
 
+fn no_desk_is_above_the_limit(network: &Network, state: &State) -> bool {
+    (1..=MOST_DESKS).all(|desk| matters_of(network, state, desk) <= network.plan.limit)
+}
+
+/// The sentence about desks.
+pub const ABOVE_THE_LIMIT: &str = "no desk is above the limit";
+
 pub type Sentence = fn(&Network, &State) -> bool;
 
-pub const SENTENCES: [(&str, Sentence); 13] = [
+pub const SENTENCES: [(&str, Sentence); 14] = [
     ("codes exist", codes_exist),
     ("current way exists", current_way_exists),
     ("bytes past the bookings are zero", bytes_past_the_bookings_are_zero),
@@ -139,6 +158,7 @@ pub const SENTENCES: [(&str, Sentence); 13] = [
     ("held firm are in the current way", held_firm_are_in_current_way),
     ("lost in the current way stand on held", lost_in_current_way_stand_on_held),
     ("lost in the current way means requested", lost_in_current_way_means_requested),
+    (ABOVE_THE_LIMIT, no_desk_is_above_the_limit),
 ];
 
 pub fn is_sound(network: &Network, state: &State) -> bool {
@@ -160,20 +180,24 @@ pub enum Order {
     CalledOff,
 }
 
-/// Rule 2: nothing held or still returning stands on it.
-fn to_return(network: &Network, state: &State) -> Option<usize> {
+/// Rule 2, whatever the desks have open: nothing held or still returning stands
+/// on it.
+pub fn to_return(network: &Network, state: &State) -> Vec<usize> {
     let kept = |&v: &usize| state[v] == HELD || state[v] == RETURNING;
-    let held = with_code(network, state, HELD);
-    held.into_iter().find(|&b| {
-        !in_current_way(network, state, b)
-            && !network.plan.bookings().filter(kept).any(|v| network.precedes(b, v))
-    })
+    let stood_on = |b: usize| network.plan.bookings().filter(kept).any(|v| network.precedes(b, v));
+    let outside = |b: &usize| !in_current_way(network, state, *b) && !stood_on(*b);
+    with_code(network, state, HELD).into_iter().filter(outside).collect()
 }
 
-/// Rule 4: everything it stands on is held.
-fn to_request(network: &Network, state: &State) -> Option<usize> {
-    let free = with_code(network, state, FREE);
-    free.into_iter().find(|&b| in_current_way(network, state, b) && predecessors_held(network, state, b))
+/// Rule 4, whatever the desks have open: everything it stands on is held.
+pub fn to_request(network: &Network, state: &State) -> Vec<usize> {
+    let due = |b: &usize| in_current_way(network, state, *b) && predecessors_held(network, state, *b);
+    with_code(network, state, FREE).into_iter().filter(due).collect()
+}
+
+/// The lowest of these that is not passed over.
+fn first_at_open_desk(network: &Network, state: &State, due: Vec<usize>) -> Option<usize> {
+    due.into_iter().find(|&b| !is_at_full_desk(network, state, b))
 }
 
 fn with_byte(mut state: State, booking: usize, code: u8) -> State {
@@ -186,13 +210,13 @@ pub fn next_order(network: &Network, state: State) -> (Order, State) {
     if !lost_in_current_way(network, &state).is_empty() {
         return (Order::Wait, state);
     }
-    if let Some(b) = to_return(network, &state) {
+    if let Some(b) = first_at_open_desk(network, &state, to_return(network, &state)) {
         return (Order::Return(b), with_byte(state, b, RETURNING));
     }
     if any_with_code(network, &state, RETURNING) {
         return (Order::Wait, state);
     }
-    if let Some(b) = to_request(network, &state) {
+    if let Some(b) = first_at_open_desk(network, &state, to_request(network, &state)) {
         return (Order::Request(b), with_byte(state, b, REQUESTED));
     }
     if any_with_code(network, &state, REQUESTED) {

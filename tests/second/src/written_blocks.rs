@@ -3,6 +3,7 @@
 use crate::flights::{chase, lines, plan_of, returnables, state_of, tanker};
 use crate::plan::Plan;
 use crate::run::State;
+use crate::written_desks::{passed_over_request, vans};
 
 /// A block on a sheet that passes and a sound state, and what follows: the
 /// refusal (0 if it is taken whole), the place, the state.
@@ -217,8 +218,22 @@ fn full() -> Vec<Written> {
     ]
 }
 
+/// Replies to desks that are full.
+fn at_full_desks() -> Vec<Written> {
+    let (one, two, three) = (vans("DD", 1), vans("DD", 2), passed_over_request());
+    vec![
+        taken(&one, "Y1", 1, (&[1, 1], &[1, 2])),
+        taken(&one, "N2", 1, (&[1, 2, 1], &[1, 2, 0])),
+        taken(&two, "N2 Y1", 2, (&[1, 1, 1], &[1, 2, 0])),
+        taken(&three, "Y3 Y1", 2, (&[1, 1, 0, 1], &[1, 2, 0, 2])),
+        taken(&three, "K1", 1, (&[0, 4, 2, 3], &[0, 2, 2, 3])),
+        misfit(&one, "Y1 Y2", 2, (&[1, 1], &[1, 2])),
+        misfit(&three, "G1 G2", 2, (&[0, 4, 2, 3], &[0, 0, 2, 3])),
+    ]
+}
+
 pub fn blocks() -> Vec<Written> {
-    let taken = [taken_one_by_one(), taken_together()].into_iter().flatten();
+    let taken = [taken_one_by_one(), taken_together(), at_full_desks()].into_iter().flatten();
     let bad = [misfits(), unknown(), misformed(), odd_letters()].into_iter().flatten();
     taken.chain(bad).chain(two_digits()).chain(full()).collect()
 }
@@ -236,7 +251,7 @@ mod tests {
 
     #[test]
     fn blocks_have_the_written_results() {
-        assert_eq!(blocks().len(), 106);
+        assert_eq!(blocks().len(), 113);
         for Written { plan, before, text, refusal, place, after } in blocks() {
             let mut state = before;
             let answer = calls::reply_block(&sheet(&plan), &text, &mut state);

@@ -15,7 +15,7 @@ use Rattle.sheet.specs.Sheet.{sheetOf}
 use Rattle.sheet.proofs.SheetLaws.{read-fine}
 use Rattle.sheet.proofs.Places.{sheet-small}
 use Rattle.sheet.proofs.Accepted.{sheet-valid}
-use Rattle.network.specs.FromPlan.{networkOf, Ends}
+use Rattle.network.specs.FromPlan.{networkOf, Ends, Seated}
 use Rattle.network.proofs.Plans.{valid-fits}
 use Rattle.verdict.proofs.Places.{verdict-small}
 use Rattle.calls.specs.Calls.{networkIn}
@@ -51,7 +51,7 @@ returns c = checked-refused _ _ _ _ _ (ap (λ (x : Outlined). x .judged) (c .bef
 network-of-requires : tie.Need-network-of-requires
 network-of-requires c κs =
     let o = c .before .before in
-    subst (λ (p : Plan). (p .n ≤ 64) × Ends (p .n) (p .from) (p .to) (p .m)) (sym (plan-is o)) (valid-fits _ (sheet-valid _ (fine (o .before))))
+    subst (λ (p : Plan). (p .n ≤ 64) × Ends (p .n) (p .from) (p .to) (p .m) × Seated (p .n) (p .desk)) (sym (plan-is o)) (valid-fits _ (sheet-valid _ (fine (o .before))))
 
 check-requires : tie.Need-check-requires
 check-requires c κs = rw (net c) (fine-bounds _ (fine (c .before .before .before .before)))

@@ -23,18 +23,18 @@ use Rattle.lent_state.proofs.take_lines.Statement.{statement}
 use Rattle.lent_state.proofs.take_lines.Tie as tie
 
 abbrev Inv-loop : tie.InvT-loop
-Inv-loop g lines orders state₀ before ways standing₀ at₀ kept₀ state stands at kept = (at ≤ length lines) × (6 * kept ≡ at) × (length state ≡ 65) × (runOf state .way ≤ 16) × (stands ≡ standing g (runOf state))
+Inv-loop g lines orders state₀ before ways desks standing₀ at₀ kept₀ state stands at kept = (at ≤ length lines) × (6 * kept ≡ at) × (length state ≡ 65) × (runOf state .way ≤ 16) × (stands ≡ standing g (runOf state))
     × (rest orders g lines at kept (runOf state) ≡ takenOf orders g (runOf state₀) lines)
 
 abbrev μ-loop : tie.MeasureT-loop
-μ-loop g lines orders state₀ before ways standing₀ at₀ kept₀ state stands at kept = length lines - at
+μ-loop g lines orders state₀ before ways desks standing₀ at₀ kept₀ state stands at kept = length lines - at
 
 -- where the work began, from its loop
 abbrev from : tie.At-loop Inv-loop μ-loop → tie.Start Inv-loop μ-loop
-from l = l .before .before .before .before .before
+from l = l .before .before .before .before .before .before
 
 loop-holds : tie.Need-loop-holds Inv-loop μ-loop
-loop-holds c = let a = c .before .before .before .before in (omega arith, refl, a .pre .2, a .pre .3, a .pre .4, all-left (a .args .orders) (a .args .g) (a .args .lines .now) (runOf (a .args .state .now)))
+loop-holds c = let a = c .before .before .before .before .before in (omega arith, refl, a .pre .2, a .pre .3, a .pre .4, all-left (a .args .orders) (a .args .g) (a .args .lines .now) (runOf (a .args .state .now)))
 
 same-length : tie.Need-same-length Inv-loop μ-loop
 same-length c = let l = c .before .before .before in l .loop .inv .2 ∙ sym (from l .pre .2)
@@ -75,14 +75,14 @@ line-at k = k .before .before .before
 
 take-line-requires : tie.Need-take-line-requires Inv-loop μ-loop
 take-line-requires c κs =
-    let l = turn (line-at (c .before .before .before)) in
+    let l = turn (line-at (c .before .before .before .before)) in
     let p = from l .pre in
-    (refl, refl, p .0, p .1, l .loop .inv .2, l .loop .inv .3, l .loop .inv .4)
+    (refl, refl, refl, p .0, p .1, l .loop .inv .2, l .loop .inv .3, l .loop .inv .4)
 
 -- the state before the line, its letter and its booking; what the rules say of it; and what was told of it
 module _ (u : tie.After-take-line Inv-loop μ-loop) where
   abbrev k : tie.After-known-told2 Inv-loop μ-loop
-  k = u .before .before .before .before
+  k = u .before .before .before .before .before
 
   abbrev l : tie.At-loop Inv-loop μ-loop
   l = turn (line-at k)
@@ -106,7 +106,7 @@ module _ (u : tie.After-take-line Inv-loop μ-loop) where
   ruled = lineBy orders net old line
 
   abbrev after : List ℕ
-  after = u .take-line .last .1 .1 .1 .1 .1 .1 .1 .0
+  after = u .take-line .last .1 .1 .1 .1 .1 .1 .1 .1 .0
 
   given-line : line ≡ lineOf (take 6 (drop (l .loop .at) lines))
   given-line = sym (k .before .line .given .1) ∙ read (line-at k) .2

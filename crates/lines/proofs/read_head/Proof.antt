@@ -1,6 +1,6 @@
 -- `lines::read_head` meets its contract.
 -- Assumes nothing.
-use Rattle.lines.proofs.HeadLaws.{no-frame, no-bookings, no-links, no-ways, out, counts}
+use Rattle.lines.proofs.HeadLaws.{no-frame, no-bookings, no-links, no-ways, no-limit, out, counts}
 use borrow.Author.Needs.{needs}
 use Rattle.lines.proofs.read_head.Statement.{statement}
 use Rattle.lines.proofs.read_head.Tie as tie
@@ -18,10 +18,13 @@ returns-4 : tie.Need-returns-4
 returns-4 c = search no-ways
 
 returns-5 : tie.Need-returns-5
-returns-5 c = search out
+returns-5 c = search no-limit
 
 returns-6 : tie.Need-returns-6
-returns-6 c = search counts
+returns-6 c = search out
+
+returns-7 : tie.Need-returns-7
+returns-7 c = search counts
 
 pub read-head-spec : {M : Type 1} → statement M
 read-head-spec =
@@ -42,5 +45,9 @@ read-head-spec =
     (search needs)
     returns-4
     (search needs)
+    (search needs)
+    (search needs)
     returns-5
-    returns-6)
+    (search needs)
+    returns-6
+    returns-7)

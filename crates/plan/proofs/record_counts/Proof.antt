@@ -14,7 +14,7 @@ unfolding countsFit
 returns c = and-off _ _ _ (c .before .in-limits .ensures) (not-true _ (c .if1 .taken))
 
 counts-fit-requires : tie.Need-counts-fit-requires
-counts-fit-requires c κs = limited-by _ _ _ _ (c .before .before .in-limits .ensures) (c .before .if1 .left) .ways
+counts-fit-requires c κs = limited-by _ _ _ _ _ (c .before .before .in-limits .ensures) (c .before .if1 .left) .ways
 
 returns-2 : tie.Need-returns-2
 unfolding countsFit

@@ -50,10 +50,10 @@ way-of-requires : tie.Need-way-of-requires
 way-of-requires c κs = (c .pre .1, omega arith)
 
 to-return-requires : tie.Need-to-return-requires
-to-return-requires c κs = let p = way1 c .before .pre in (p .0, p .2)
+to-return-requires c κs = let p = way1 c .before .pre in (p .0, p .2, p .4)
 
 to-request-requires : tie.Need-to-request-requires
-to-request-requires c κs = let p = way3 c .before .pre in (p .0, p .2)
+to-request-requires c κs = let p = way3 c .before .pre in (p .0, p .2, p .4)
 
 returns : tie.Need-returns
 returns c = lost-wait _ _ _ _ (c .before .before .way-of .ensures) (got (c .before .lost-in .ensures) (c .if1 .taken))

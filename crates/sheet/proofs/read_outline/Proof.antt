@@ -10,11 +10,11 @@ read-body-requires : tie.Need-read-body-requires
 read-body-requires c κs =
     let k = c .before .before .before in
     let p = k .before .before .before .before .before .pre in
-    let l = head-limits _ _ _ _ _ (k .before .before .read-head .ensures) (k .n .given .1) in
+    let l = head-limits _ _ _ _ _ _ (k .before .before .read-head .ensures) (k .n .given .1) in
     (l .bookings, l .links, l .ways, p .0, p .1)
 
 returns : tie.Need-returns
-returns c = let k = c .before .before .before .before in head-right _ _ _ (k .before .before .before .part .ensures) (k .before .before .read-head .ensures) _ _ _ (k .n .given .1) _ _ _ (c .read-body .ensures)
+returns c = let k = c .before .before .before .before in head-right _ _ _ (k .before .before .before .part .ensures) (k .before .before .read-head .ensures) _ _ _ _ (k .n .given .1) _ _ _ (c .read-body .ensures)
 
 returns-2 : tie.Need-returns-2
 returns-2 c =

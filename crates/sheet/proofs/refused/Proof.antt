@@ -1,7 +1,7 @@
 -- `sheet::refused` meets its contract.
 -- Assumes nothing.
 use mathlib.Core.Path.{refl}
-use Rattle.lines.specs.Kinds.{noKinds}
+use Rattle.lines.specs.Bookings.{noBookings}
 use Rattle.lines.specs.Links.{noLinks}
 use Rattle.ways.specs.Ways.{noWays}
 use Rattle.sheet.specs.Sheet.{refusedOf, noPlan}
@@ -9,7 +9,7 @@ use Rattle.sheet.proofs.refused.Statement.{statement}
 use Rattle.sheet.proofs.refused.Tie as tie
 
 returns : tie.Need-returns
-unfolding refusedOf noPlan noKinds noLinks noWays
+unfolding refusedOf noPlan noBookings noLinks noWays
 returns c = refl
 
 pub refused-spec : {M : Type 1} → statement M

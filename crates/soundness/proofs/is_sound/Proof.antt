@@ -9,7 +9,7 @@ use Rattle.bounded.proofs.Bools.{went}
 use Rattle.standing.specs.Ways.{heldFirm}
 use Rattle.standing.specs.declared.Standing.{Standing}
 use Rattle.run.specs.State.{standing, here}
-use Rattle.run.specs.Sound.{allFounded, lostExposed, requestedInside, returningOutside, quiet, earlierDead, firmInside, lostPending}
+use Rattle.run.specs.Sound.{allFounded, lostExposed, requestedInside, returningOutside, quiet, earlierDead, firmInside, desksKept, lostPending}
 use Rattle.run.proofs.SoundTest.{fails, sound-last, way-few}
 use Rattle.soundness.proofs.is_sound.Statement.{statement}
 use Rattle.soundness.proofs.is_sound.Tie as tie
@@ -32,6 +32,9 @@ way6 c = way5 (c .before .before)
 
 abbrev way7 : tie.Else7 → tie.After-way-of
 way7 c = way6 (c .before .before .before .before)
+
+abbrev way8 : tie.Else8 → tie.After-way-of
+way8 c = way7 (c .before .before .before .before)
 
 abbrev from : tie.After-way-of → tie.Start
 from w = w .before .before .before .before .before .before .before
@@ -80,7 +83,7 @@ earlier-dead-requires : tie.Need-earlier-dead-requires
 earlier-dead-requires c κs = (refl, omega arith, few (way6 (c .before .before) .before .before .before .before .before))
 
 lost-pending-requires : tie.Need-lost-pending-requires
-lost-pending-requires c κs = (refl, from (way7 (c .before .before .before .before .before)) .pre .0)
+lost-pending-requires c κs = (refl, from (way8 (c .before .before .before)) .pre .0)
 
 returns-7 : tie.Need-returns-7
 returns-7 c = let w = way6 (c .before .before .before .before) in
@@ -92,9 +95,14 @@ returns-8 c = let w = way7 (c .before .before .before .before) in
     fails _ _ _ (λ p. p .firms) _ (c .before .subset3 .ensures ∙ told w (firmInside (from w .args .g))) (c .if8 .taken)
 
 returns-9 : tie.Need-returns-9
+returns-9 c = let w = way8 (c .before .before) in
+    fails _ _ _ (λ p. p .desks) _ (c .before .desks-kept .ensures ∙ told w (λ (s : Standing) (x : ℕ). desksKept (from w .args .g) s)) (c .if9 .taken)
+
+returns-10 : tie.Need-returns-10
 unfolding lostExposed requestedInside firmInside heldFirm
-returns-9 c =
-    let c8 = c .before .before in
+returns-10 c =
+    let c9 = c .before .before in
+    let c8 = c9 .before .before in
     let c7 = c8 .before .before .before .before in
     let c6 = c7 .before .before .before .before in
     let c5 = c6 .before .before in
@@ -113,6 +121,7 @@ returns-9 c =
       quiets = went (c6 .before .quiet .ensures ∙ told w quiet) (c6 .if6 .left);
       earlier = went (c7 .before .earlier-dead .ensures ∙ told w (λ (s : Standing) (x : ℕ). earlierDead g s (from w .args .r .way))) (c7 .if7 .left);
       firms = went (c8 .before .subset3 .ensures ∙ told w (firmInside g)) (c8 .if8 .left);
+      desks = went (c9 .before .desks-kept .ensures ∙ told w (λ (s : Standing) (x : ℕ). desksKept g s)) (c9 .if9 .left);
     })
 
 pub is-sound-spec : {M : Type 1} → statement M
@@ -138,5 +147,7 @@ is-sound-spec =
     returns-7
     (search needs)
     returns-8
+    (search needs)
+    returns-9
     lost-pending-requires
-    returns-9)
+    returns-10)

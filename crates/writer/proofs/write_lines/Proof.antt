@@ -10,9 +10,9 @@ write-head-requires : tie.Need-write-head-requires
 unfolding sheetLength
 write-head-requires c κs = search needs
 
-write-kinds-requires : tie.Need-write-kinds-requires
+write-bookings-requires : tie.Need-write-bookings-requires
 unfolding sheetLength
-write-kinds-requires c κs = search needs
+write-bookings-requires c κs = search needs
 
 write-links-requires : tie.Need-write-links-requires
 unfolding sheetLength
@@ -30,7 +30,7 @@ write-lines-spec =
     tie.close
     (tie.spec
     write-head-requires
-    write-kinds-requires
+    write-bookings-requires
     (search needs)
     write-links-requires
     (search needs)

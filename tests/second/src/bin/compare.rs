@@ -138,6 +138,9 @@ const FEWEST_JOURNALS: u64 = 120_000;
 /// So many blocks are compared line by line before the rounds.
 const FEWEST_BLOCKS: u64 = 120_000;
 
+/// So many orders are passed over in campaigns with desks before the rounds.
+const FEWEST_PASSED_OVER: u64 = 60_000;
+
 const USAGE: &str = "usage: compare [--check-only] [--seconds N] [--rounds N] [--seed N] [--from-round N]";
 
 fn options() -> Option<Options> {
@@ -164,12 +167,18 @@ fn options() -> Option<Options> {
     Some(options)
 }
 
-/// The fixed part, the journals, the blocks, then rounds until their number or the time is used up.
+/// What was answered before desks, the fixed part, the desks, the journals, the blocks, then rounds until their
+/// number or the time is used up.
 fn compare(comparison: &mut Comparison, options: &Options) -> Outcome<u64> {
     let began = Instant::now();
+    comparison.old_cases()?;
+    println!("stored cases: {:.1} s", began.elapsed().as_secs_f64());
     comparison.fixed_part(options.seed)?;
-    println!("fixed part: {:.1} s", began.elapsed().as_secs_f64());
+    println!("with the fixed part: {:.1} s", began.elapsed().as_secs_f64());
     if !options.check_only {
+        comparison.desks(options.seed, FEWEST_PASSED_OVER)?;
+        comparison.enough_desks()?;
+        println!("with the desks: {:.1} s", began.elapsed().as_secs_f64());
         comparison.journals(options.seed, FEWEST_JOURNALS)?;
         println!("with the journals: {:.1} s", began.elapsed().as_secs_f64());
         comparison.blocks(options.seed, FEWEST_BLOCKS)?;

@@ -175,7 +175,7 @@ impl Comparison<'_> {
     }
 
     /// A block from which this must follow.
-    fn expect_block(&mut self, case: &Case, before: &[u8], block: &Lent, due: (u32, &[u8])) -> Outcome {
+    pub fn expect_block(&mut self, case: &Case, before: &[u8], block: &Lent, due: (u32, &[u8])) -> Outcome {
         let (singly, state) = self.block_from(case, before, block)?;
         if (singly.answer, &state[..]) == due {
             return Ok(());
@@ -188,9 +188,10 @@ impl Comparison<'_> {
 /// What is fixed.
 impl Comparison<'_> {
     /// What is fixed about blocks, then blocks from the states of campaigns on
-    /// the named sheets until so many were judged line by line.
+    /// the named sheets until so many here were judged line by line.
     pub fn blocks(&mut self, seed: u64, fewest: u64) -> Outcome {
         let mut dice = Dice::new(seed);
+        let fewest = self.tally.count_of_events(JUDGED) + fewest;
         self.written_blocks()?;
         self.refused_before_blocks()?;
         self.unsound_before_blocks()?;

@@ -1,5 +1,6 @@
 //! Every plan of one or two bookings, of all kinds, with every state of it, and
-//! every block of one or two replies: few enough to leave none out.
+//! every block of one or two replies: few enough to leave none out. Three bookings
+//! beside each other too, for only then a desk can pass one over for another.
 
 use super::blocks::BEHIND;
 use super::lent::Lent;
@@ -33,6 +34,29 @@ fn way_lists(n: usize) -> Vec<Vec<Vec<usize>>> {
     (1..=ways.len()).flat_map(|length| lists(&ways, length)).collect()
 }
 
+/// Desks for so many bookings: which of them are the same is all that matters.
+fn splits(n: usize) -> &'static [&'static [usize]] {
+    match n {
+        1 => &[&[8]],
+        2 => &[&[1, 1], &[8, 3]],
+        _ => &[&[1, 1, 1], &[1, 1, 8], &[1, 8, 1], &[8, 1, 1], &[3, 2, 1]],
+    }
+}
+
+/// A plan with each split of its desks, and limits that one or two matters reach.
+fn with_each_desk(plan: &Plan) -> Vec<Plan> {
+    let desks = splits(plan.count()).iter().flat_map(|desks| [1, 2].map(|limit| (desks, limit)));
+    desks.map(|(desks, limit)| plan.clone().with_desks(desks, limit)).collect()
+}
+
+/// Three bookings without links, of all kinds, in one way and in some two.
+fn three_beside() -> Vec<Plan> {
+    let ways = [vec![vec![1, 2, 3]], vec![vec![1, 2], vec![2, 3]], vec![vec![1, 2], vec![3]]];
+    let plan = |kinds: &Vec<Kind>, ways| Plan::at_one_desk(kinds.clone(), Vec::new(), ways);
+    let kinds = lists(&KINDS, 3);
+    kinds.iter().flat_map(|kinds| ways.clone().map(|ways| plan(kinds, ways))).collect()
+}
+
 /// All plans of n bookings with no more ways than there are different ones.
 fn plans(n: usize) -> Vec<Plan> {
     let pairs: Vec<(usize, usize)> = (1..=n).flat_map(|u| (1..=n).map(move |v| (u, v))).collect();
@@ -40,7 +64,7 @@ fn plans(n: usize) -> Vec<Plan> {
     for kinds in lists(&KINDS, n) {
         for links in choices(&pairs) {
             for ways in way_lists(n) {
-                plans.push(Plan { kinds: kinds.clone(), links: links.clone(), ways });
+                plans.extend(with_each_desk(&Plan::at_one_desk(kinds.clone(), links.clone(), ways)));
             }
         }
     }
@@ -75,6 +99,24 @@ impl Comparison<'_> {
             self.call(&case, &mut Vec::new(), Call::Check)?;
             if case.network().is_some() && !self.check_only {
                 self.every_state(&case, &plan)?;
+            }
+        }
+        Ok(())
+    }
+
+    /// Three bookings at each split of desks, with every state that is sound but
+    /// for its desks.
+    pub fn every_split_of_three(&mut self) -> Outcome {
+        self.part = "every split of three bookings".to_string();
+        for plan in three_beside().iter().flat_map(with_each_desk) {
+            let case = Case::new(plan::write(&plan).as_bytes());
+            let Some(network) = case.network() else { continue };
+            let sound = |state: &State| {
+                run::broken_sentences(network, state).iter().all(|&s| s == run::ABOVE_THE_LIMIT)
+            };
+            for state in states(&plan).into_iter().filter(sound) {
+                self.tally.event("states of plans of three bookings");
+                self.every_call(&case, &plan, &state)?;
             }
         }
         Ok(())

@@ -88,9 +88,10 @@ pub fn passing() -> Vec<Case> {
 
 impl Comparison<'_> {
     /// What is fixed about journals, then campaigns of the named sheets with
-    /// damaged journals until there were so many restarts.
+    /// damaged journals until there were so many restarts here.
     pub fn journals(&mut self, seed: u64, fewest: u64) -> Outcome {
         let mut dice = Dice::new(seed);
+        let fewest = self.tally.count_of_calls("restart") + fewest;
         self.every_line()?;
         self.written_journals()?;
         self.refused_before_journals()?;

@@ -3,11 +3,13 @@
 
 pub mod blocks;
 mod damage;
+pub mod desks;
 mod every;
 pub mod journals;
 mod ledger;
 mod lent;
 mod lines;
+mod old;
 mod record;
 mod replies;
 pub mod sheets;
@@ -33,6 +35,39 @@ pub trait Campaign {
     fn reply_block(&self, sheet: &[u8], block: Option<&[u8]>, state: &mut [u8]) -> u32;
     fn restart(&self, sheet: &[u8], journal: &[u8], state: &mut [u8]) -> u32;
     fn journal_line(&self, letter: u8, booking: u32, line: &mut [u8]) -> u32;
+}
+
+/// The second version in the place of the first: it must not differ from itself.
+pub struct Second;
+
+impl Campaign for Second {
+    fn check(&self, sheet: &[u8]) -> u32 {
+        calls::check(sheet)
+    }
+
+    fn start(&self, sheet: &[u8], state: &mut [u8]) -> u32 {
+        calls::start(sheet, state)
+    }
+
+    fn next_order(&self, sheet: &[u8], state: &mut [u8]) -> u32 {
+        calls::next_order(sheet, state)
+    }
+
+    fn reply(&self, sheet: &[u8], state: &mut [u8], letter: u8, booking: u32) -> u32 {
+        calls::reply(sheet, state, letter, booking)
+    }
+
+    fn reply_block(&self, sheet: &[u8], block: Option<&[u8]>, state: &mut [u8]) -> u32 {
+        calls::reply_block(sheet, block.unwrap_or(b""), state)
+    }
+
+    fn restart(&self, sheet: &[u8], journal: &[u8], state: &mut [u8]) -> u32 {
+        calls::restart(sheet, journal, state)
+    }
+
+    fn journal_line(&self, letter: u8, booking: u32, line: &mut [u8]) -> u32 {
+        calls::journal_line(letter, booking, line)
+    }
 }
 
 /// Nothing to say, or what differs.
@@ -104,6 +139,7 @@ impl<'a> Comparison<'a> {
     fn call(&mut self, case: &Case, state: &mut Vec<u8>, call: Call) -> Outcome<u32> {
         let mut expected_state = state.clone();
         let expected = second_answer(&case.judged, &mut expected_state, call);
+        let before = state.clone();
         let mut lent = Lent::new(state);
         let answer = self.first_answer(case.sheet.bytes(), lent.bytes_mut(), call);
         self.tally.note(name_of(call), answer);
@@ -113,7 +149,12 @@ impl<'a> Comparison<'a> {
         self.history.push((Made::Call(call), answer));
         let whole = lent.guards_are_whole() && case.sheet.is_whole();
         let first = Said { answer, state: lent.bytes() };
-        self.settle(case, state, first, Said { answer: expected, state: &expected_state }, whole)
+        self.settle(case, state, first, Said { answer: expected, state: &expected_state }, whole)?;
+        if call == Call::NextOrder {
+            self.note_passed_over(case, &before, answer);
+            self.demand_no_stranding(case, &before, answer)?;
+        }
+        Ok(answer)
     }
 
     /// Restarts with both versions, as `call` makes a call.
@@ -197,6 +238,7 @@ impl<'a> Comparison<'a> {
     /// Check alone, and the other calls once if the sheet is refused.
     pub fn compare_sheet(&mut self, case: &Case, dice: &mut Dice) -> Outcome {
         self.call(case, &mut Vec::new(), Call::Check)?;
+        self.note_field(case);
         if self.check_only {
             return Ok(());
         }
@@ -228,6 +270,7 @@ impl<'a> Comparison<'a> {
             let record = self.campaign(&case, &mut dice)?;
             self.some_journals(&case, &record, &mut dice)?;
             self.some_blocks(&case, &record, &mut dice)?;
+            self.some_above_the_limit(&case, &record, &mut dice)?;
             for _ in 0..2 {
                 self.campaign(&case, &mut dice)?;
             }

@@ -18,10 +18,12 @@ impl Comparison<'_> {
         }
         self.damage_longest(&mut dice)?;
         self.every_kind()?;
+        self.every_limit_and_desk()?;
         self.every_small_plan()?;
         if self.check_only {
             return Ok(());
         }
+        self.every_split_of_three()?;
         self.part = "the flights' replies".to_string();
         self.play_flights()?;
         self.unsound_states()
@@ -57,7 +59,7 @@ impl Comparison<'_> {
             // The rest of the sheet still stands behind, but is not lent.
             self.compare_sheet(&Case::with_rest(&sheet[..at], &sheet[at..]), dice)?;
         }
-        for more in ["\n", " ", "A", "A   1   1\n", "\0", "P   1   0   1\n"] {
+        for more in ["\n", " ", "A", "A   1   1\n", "\0", "P   1   0   1   1\n"] {
             self.compare_sheet(&Case::new(&[sheet, more.as_bytes()].concat()), dice)?;
         }
         Ok(())
@@ -83,7 +85,7 @@ impl Comparison<'_> {
     fn every_kind(&mut self) -> Outcome {
         self.part = "every byte as a kind".to_string();
         for letter in 0..=255 {
-            let sheet = [b"P   1   0   1\nB   1 ", &[letter][..], b"\nA   1   1\n"].concat();
+            let sheet = [b"P   1   0   1  64\nB   1 ", &[letter][..], b"   1\nA   1   1\n"].concat();
             let case = Case::new(&sheet);
             let answer = self.call(&case, &mut Vec::new(), Call::Check)?;
             let due = match letter {
@@ -163,7 +165,7 @@ impl Comparison<'_> {
     }
 
     /// Each call from this same state.
-    fn all_calls(&mut self, case: &Case, state: &[u8]) -> Outcome {
+    pub fn all_calls(&mut self, case: &Case, state: &[u8]) -> Outcome {
         let fitting = [(b'Y', 1), (b'N', 1), (b'G', 1), (b'K', 1)];
         let odd = [(b'Y', 0), (b'?', 1), (b'N', 64), (b'G', 65), (b'K', u32::MAX)];
         self.call(case, &mut state.to_vec(), Call::Start)?;

@@ -1,8 +1,10 @@
 -- `run::Run::next_order` meets its contract.
 -- Assumes nothing.
-use mathlib.Core.Path.{_≡_, refl, sym, ap}
+use mathlib.Core.Path.{_≡_, refl, sym, ap, _∙_}
+use Prim.Native.Nat.{ℕ}
 use native.Mathlib.Omega.{arith}
 use borrow.Author.Needs.{needs}
+use Rattle.desks.specs.Desks.{fullOf}
 use Rattle.run.specs.Orders.{next, ordered}
 use Rattle.run.specs.declared.Run.{Run}
 use Rattle.run.specs.declared.Ordered.{Ordered}
@@ -13,7 +15,7 @@ use Rattle.run.proofs.Run.next_order.Tie as tie
 
 -- where the function began
 abbrev from : tie.After-due-order → tie.Start
-from d = d .before .before .before .before .before
+from d = d .before .before .before .before .before .before .before .before .before
 
 -- a state that the order leads to
 leads : (d : tie.After-due-order) (o : Order) → d .due-order .result ≡ o → (t : Run) → t ≡ ordered (from d .args .self) o
@@ -21,7 +23,10 @@ leads : (d : tie.After-due-order) (o : Order) → d .due-order .result ≡ o →
 leads d o e = next-made _ _ _ (from d .pre .2) _ o (d .due-order .ensures) e
 
 due-order-requires : tie.Need-due-order-requires
-due-order-requires c κs = (refl, refl, omega arith, omega arith)
+due-order-requires c κs =
+    let f = c .before .before in
+    let a = f .before .before .before .before .before .before in
+    (refl, refl, omega arith, omega arith, f .full .ensures ∙ ap (λ (m : ℕ). fullOf (a .args .g .limit) (a .args .g .desk) m) (f .before .matters .ensures))
 
 put-requires : tie.Need-put-requires
 put-requires c κs = let d = c .before .before .before in request-small _ (from d .pre .0) _ _ _ (d .due-order .ensures) _ (c .before .order .given .1)
@@ -53,6 +58,8 @@ pub next-order-spec : {M : Type 1} → statement M
 next-order-spec =
     tie.close
     (tie.spec
+    (search needs)
+    (search needs)
     due-order-requires
     (search needs)
     put-requires

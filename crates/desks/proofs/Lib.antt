@@ -1,0 +1,2 @@
+-- The laws of crate `desks`.
+pub mod Laws

@@ -1,0 +1,2 @@
+-- The definitions of crate `desks`.
+pub mod Desks
