@@ -98,7 +98,8 @@ pub fn due_order(
     if y < g.n {
         return Order::Request(y);
     }
-    if s.requested != 0 {
+    let asked = s.requested;
+    if asked != 0 {
         return Order::Wait;
     }
     if w == 0 {

@@ -24,7 +24,7 @@ abbrev way4 : tie.Else4 → tie.After-way-of
 way4 c = way3 (c .before .before .before)
 
 abbrev way5 : tie.Else5 → tie.After-way-of
-way5 c = way4 (c .before .before)
+way5 c = way4 (c .before)
 
 -- the rules from one on give the order
 abbrev Leads : (rule : tie.Start → Order) → tie.After-way-of → Type 0
@@ -44,7 +44,7 @@ past4 : (c : tie.Else4) → Leads (λ a. rule5 (a .args .g) (a .args .s) (a .arg
 past4 c = past-4 _ _ _ _ (way4 c .way-of .ensures) _ (c .before .before .to-request .ensures) (omega arith) ∙ past3 (c .before .before .before)
 
 past5 : (c : tie.Else5) → Leads (λ a. ending (a .args .w)) (way5 c)
-past5 c = past-5 (way5 c .before .args .g) _ _ (c .if5 .left) ∙ past4 (c .before .before)
+past5 c = past-5 (way5 c .before .args .g) _ _ (c .if5 .left) ∙ past4 (c .before)
 
 way-of-requires : tie.Need-way-of-requires
 way-of-requires c κs = (c .pre .1, omega arith)
@@ -68,7 +68,7 @@ returns-4 : tie.Need-returns-4
 returns-4 c = let l = c .before .before .before in request-now _ _ _ _ (way3 l .way-of .ensures) _ (c .before .before .to-request .ensures) (omega arith) ∙ past3 l
 
 returns-5 : tie.Need-returns-5
-returns-5 c = let l = c .before .before in request-wait (way4 l .before .args .g) _ _ (c .if5 .taken) ∙ past4 l
+returns-5 c = let l = c .before in request-wait (way4 l .before .args .g) _ _ (c .if5 .taken) ∙ past4 l
 
 returns-6 : tie.Need-returns-6
 returns-6 c = let l = c .before in end-off (way5 l .before .args .g) (way5 l .before .args .s) _ (c .if6 .taken) ∙ past5 l
