@@ -88,6 +88,15 @@ count-lt f (suc n) i h e = elim (last? h) [
   | inr l ↦ omega (arith, count-lt f n i l e)
 ]
 
+-- one fails, so not all pass
+pub count-lacks : (f : ℕ → Bool) (n i : ℕ) → i < n → f i ≡ false → count f n < n
+unfolding count
+count-lacks f zero i h e = absurd (not-suc-le-zero h)
+count-lacks f (suc n) i h e = elim (last? h) [
+  | inl p ↦ (let q : f n ≡ false = rw p at e in rw q (omega (arith, count-le f n)))
+  | inr l ↦ omega (arith, count-lacks f n i l e, one-le (f n))
+]
+
 one-mono : (a b : Bool) → (a ≡ true → b ≡ true) → one a ≤ one b
 one-mono true b h = rw (h refl) (omega arith)
 one-mono false b h = omega arith

@@ -14,7 +14,7 @@ use Rattle.bounded.specs.Bounded.{any, all}
 use Rattle.bounded.proofs.Bools.{clash, off, split?, which, and-l, or-false, _&_}
 use Rattle.bounded.proofs.Tests.{all-e, all-i, any-i, any-o, any-suc}
 use Rattle.bounded.proofs.Loops.{All-far, all-far-more, all-call, all-over}
-use Rattle.bounded.proofs.Sums.{count-none, count-mono, count-but-one}
+use Rattle.bounded.proofs.Sums.{count-none, count-lacks, count-mono, count-but-one}
 use Rattle.sets.specs.Sets.{member, sizeOf}
 use Rattle.sets.proofs.Members.{member-or, member-zero}
 use Rattle.sets.proofs.Facts.{both-e, both-i}
@@ -56,6 +56,11 @@ module _ (limit : ℕ) (ds : List ℕ) (m : ℕ) where
   pub nothing-open : 1 ≤ limit → ((b : ℕ) → member m b ≡ false) → (b : ℕ) → deskFull limit ds m b ≡ false
   unfolding sizeOf
   nothing-open h none = none-full (omega (arith, count-none (member m) 64 (λ b l. none b)))
+
+  -- nor is one where each of 64 bookings may be open and one is not
+  pub wide : 64 ≤ limit → (x : ℕ) → x < 64 → member m x ≡ false → (b : ℕ) → deskFull limit ds m b ≡ false
+  unfolding sizeOf
+  wide h x l e = none-full (omega (arith, count-lacks (member m) 64 x l e))
 
   -- a desk that is not full has room
   pub room : (b d : ℕ) → deskFull limit ds m b ≡ false → d < 8 → member (getD ds d 0) b ≡ true → openAt ds m d < limit

@@ -1,10 +1,9 @@
 -- The loop over the bookings that puts each into the set of its desk, and what the sets are.
 -- Assumes nothing.
 use mathlib.Core.Path.{_≡_, ap, _∙_}
-use mathlib.Core.Logic.{_≢_, inl, inr}
-use mathlib.Core.Bool.{true, false}
+use mathlib.Core.Logic.{inl, inr}
 use mathlib.Core.List.{List}
-use Prim.Native.Nat.{ℕ, suc, _+_, _-_, _^_, _≤_, _<_}
+use Prim.Native.Nat.{ℕ, suc, _+_, _-_, _≤_, _<_}
 use native.Mathlib.Omega.{arith}
 use borrow.Author.Tests.{eq-eqb, ne-eqb}
 use lib.Dec.{eqb}
@@ -14,7 +13,7 @@ use lib.Seq.{getD-set-same, getD-set-other}
 use Rattle.bounded.proofs.Bools.{same?}
 use Rattle.bounded.proofs.Lists.{table-at}
 use Rattle.sets.specs.Sets.{member, alone, gather}
-use Rattle.sets.proofs.Gather.{gather-zero, gather-skip, member-gather}
+use Rattle.sets.proofs.Gather.{gather-skip, member-gather}
 use Rattle.sets.proofs.Operations.{gather-alone}
 use Rattle.plan.specs.Limits.{mostDesks}
 use Rattle.plan.specs.declared.Plan.{Plan}

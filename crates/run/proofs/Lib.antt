@@ -4,3 +4,4 @@ pub mod Cases
 pub mod SoundTest
 pub mod Steps
 pub mod Exits
+pub mod Wide
