@@ -2,7 +2,7 @@
 -- Assumes nothing.
 use mathlib.Core.Path.{_≡_, refl, sym, ap, _∙_}
 use mathlib.Core.Logic.{_≢_, inl, inr}
-use mathlib.Core.Bool.{Bool, true, false, not, _&&_}
+use mathlib.Core.Bool.{Bool, true, false, not, _&&_, cond}
 use mathlib.Core.List.{List}
 use Prim.Native.Nat.{ℕ, _+_, _^_, _≤_, _<_}
 use native.Mathlib.Omega.{arith}
@@ -41,12 +41,12 @@ given f g n b h here there =
 -- ---- one set
 
 module _ (codes : List ℕ) (c : ℕ) where
-  -- with booking i, once those below it are in
-  next-is : (i : ℕ) → i < 64 → placed (eqb (getD codes i 0) c) (coded codes i c) (2 ^ i) ≡ coded codes (i + 1) c
-  unfolding placed coded codeIs
-  next-is i h = elim (which (codeIs codes c i)) [
-    | inl e ↦ rw e (gather-put (codeIs codes c) i e)
-    | inr e ↦ rw e (taken (codeIs codes c) (codeIs codes c) i i (omega arith) e (λ j d. refl) ∙ gather-skip (codeIs codes c) i e)
+  -- with booking i, once those below it are in: s is the set, b booking i alone, t what the code made of them
+  pub next-is : (i b s t : ℕ) → b ≡ 2 ^ i → s ≡ coded codes i c → t ≡ cond (eqb (getD codes i 0) c) (bitOr s b) s → t ≡ coded codes (i + 1) c
+  unfolding coded codeIs
+  next-is i b s t eb es et = elim (which (codeIs codes c i)) [
+    | inl e ↦ rw (et, e, es, eb) (gather-put (codeIs codes c) i e)
+    | inr e ↦ rw (et, e, es) (gather-skip (codeIs codes c) i e)
   ]
 
   -- after booking b got code v
@@ -61,11 +61,6 @@ module _ (codes : List ℕ) (c : ℕ) where
       ]
 
 -- ---- all five
-
--- a turn of the one look
-pub looked : (codes : List ℕ) (i b : ℕ) (s : Standing) → i < 64 → b ≡ 2 ^ i → s ≡ standingOf codes i → moved s b (getD codes i 0) ≡ standingOf codes (i + 1)
-looked codes i b s h eb es =
-    rw (eb, es, next-is codes free i h, next-is codes requested i h, next-is codes held i h, next-is codes lost i h, next-is codes returning i h)
 
 -- what an order or a reply does to one booking
 pub moved-is : (codes : List ℕ) (n b v : ℕ) (s : Standing) → n ≤ 64 → b < n → length codes ≡ 64 → s ≡ standingOf codes n

@@ -1,52 +1,70 @@
 -- The loops over a standing: what precedes a set, and the first live way.
 -- Assumes nothing.
-use mathlib.Core.Path.{_≡_, sym, ap, _∙_}
-use mathlib.Core.Logic.{inl, inr}
-use mathlib.Core.Bool.{Bool, true, _&&_, _||_, cond}
+use mathlib.Core.Path.{_≡_, _∙_}
+use mathlib.Core.Logic.{_≢_, _⊎_, inl, inr}
+use mathlib.Core.Bool.{true}
 use mathlib.Core.List.{List}
 use Prim.Native.Nat.{ℕ, _+_, _^_, _≤_, _<_}
 use native.Mathlib.Nat.{le-refl}
 use native.Mathlib.Numerals.{add-one}
 use borrow.Author.Tests.{lt-ltb, le-ltb}
-use lib.Bits.{bitOr}
+use lib.Bits.{bitAnd, bitOr}
 use lib.ListN.{getD}
-use Rattle.bounded.specs.Bounded.{any}
-use Rattle.bounded.proofs.Bools.{which, or-false}
-use Rattle.bounded.proofs.Tests.{any-suc}
+use Rattle.bounded.specs.Bounded.{first}
+use Rattle.bounded.proofs.Bools.{clash, same-test}
 use Rattle.bounded.proofs.Loops.{So-far, first-at, first-over}
-use Rattle.sets.specs.Sets.{member}
-use Rattle.sets.proofs.Members.{member-or, member-zero}
+use Rattle.sets.specs.Sets.{member, allBelow, butLowest}
+use Rattle.sets.proofs.Members.{member-zero}
+use Rattle.sets.proofs.Facts.{either-e, either-l, either-r, empty-n}
 use Rattle.sets.proofs.Gather.{gather-is}
+use Rattle.sets.proofs.Whole.{cut-at, cut-e}
+use Rattle.sets.proofs.Walk.{lowest-in, but-lowest-fits, but-lowest-e, but-lowest-i}
 use Rattle.network.specs.Network.{before, pre}
 use Rattle.network.specs.declared.Network.{Network}
-use Rattle.standing.specs.Ways.{supports, precedesSome, preceding, liveAt, firstLive}
+use Rattle.standing.specs.Ways.{precedesSome, preceding, liveAt, firstLive}
 use Rattle.standing.specs.declared.Standing.{Standing}
+use Rattle.standing.proofs.Facts.{precedes-i, precedes-e}
 
 -- ---- what precedes a set
 
--- b is among the predecessors of v, a member of s; p has the predecessors of each booking
-unfoldable pub supportsIn : List ℕ → ℕ → ℕ → ℕ → Bool
-supportsIn p s b v = member s v && member (getD p v 0) b
+-- a walk over t that has rest left; r has what p lists for each of the others
+pub record Joined (p : List ℕ) (t r rest : ℕ) : Type 0 where
+  pub fits : rest < 2 ^ 64
+  pub part : (v : ℕ) → member rest v ≡ true → member t v ≡ true
+  pub from : (b : ℕ) → member r b ≡ true → (v : ℕ) × (member t v ≡ true) × (member (getD p v 0) b ≡ true)
+  pub into : (b v : ℕ) → member t v ≡ true → member (getD p v 0) b ≡ true → (member r b ≡ true) ⊎ (member rest v ≡ true)
 
-module _ (p : List ℕ) (s : ℕ) where
-  -- r has what precedes those members of s that are below v
-  abbrev pub Gathered : ℕ → ℕ → Type 0
-  Gathered r v = (b : ℕ) → member r b ≡ any (supportsIn p s b) v
+module _ (p : List ℕ) (t : ℕ) where
+  pub join-none : t < 2 ^ 64 → Joined p t 0 t
+  join-none h = record { fits = h; part = λ v e. e; from = λ b e. clash (member 0 b) e (member-zero b); into = λ b v m q. inr m }
 
-  pub gathered-none : Gathered 0 0
-  unfolding any
-  gathered-none b = member-zero b
+  pub join-on : (r s m s′ : ℕ) → m ≡ first (member s) 64 → s′ ≡ butLowest s → s ≢ 0 → Joined p t r s → Joined p t (bitOr r (getD p m 0)) s′
+  join-on r s m s′ em es d j = rw es (record {
+    fits = but-lowest-fits s;
+    part = λ v e. j .part v (but-lowest-e s v e);
+    from = λ b e. elim (either-e r (getD p m 0) b e) [
+      | inl q ↦ j .from b q
+      | inr q ↦ (m, rw em (j .part (first (member s) 64) (lowest-in s (j .fits) d)), q)
+    ];
+    into = λ b v e q. elim (j .into b v e q) [
+      | inl o ↦ inl (either-l r (getD p m 0) b o)
+      | inr o ↦ elim (but-lowest-i s v (j .fits) o) [
+        | inl z ↦ inl (either-r r (getD p m 0) b (rw (em, ← z) q))
+        | inr z ↦ inr z
+      ]
+    ];
+  })
 
-  pub gathered-more : (r v t : ℕ) → Gathered r v → t ≡ cond (member s v) (bitOr r (getD p v 0)) r → Gathered t (v + 1)
-  unfolding supportsIn
-  gathered-more r v t h e b = elim (which (member s v)) [
-    | inl m ↦ rw (e, m, any-suc (supportsIn p s b) v, m) (member-or r (getD p v 0) b ∙ ap (λ (z : Bool). z || member (getD p v 0) b) (h b))
-    | inr m ↦ rw (e, m, any-suc (supportsIn p s b) v, m) (h b ∙ sym (or-false (any (supportsIn p s b) v)))
-  ]
-
-  pub gathered-all : (g : Network) → p ≡ g .before → (r v : ℕ) → Gathered r v → r < 2 ^ 64 → v ≡ g .n → r ≡ preceding g s
-  unfolding preceding precedesSome supports supportsIn pre before
-  gathered-all g ep r v h l e = gather-is (precedesSome g s) 64 r l (λ b k. rw (e, ep) at (h b))
+-- b is what `all_below` gave
+pub join-all : (g : Network) (p : List ℕ) (s b r rest : ℕ) → p ≡ g .before → b ≡ allBelow (g .n) → r < 2 ^ 64 → rest ≡ 0 → Joined p (bitAnd s b) r rest → r ≡ preceding g s
+unfolding preceding pre before
+join-all g p s b r rest ep eb l z j =
+    gather-is (precedesSome g s) 64 r l (λ i k. same-test (member r i) (precedesSome g s i)
+    (λ e. let f = j .from i e in let t = cut-e s b (g .n) eb (f .0) (f .1) in precedes-i g s i (f .0) (t .0) (t .1) (rw ep at (f .2)))
+    (λ e. let f = precedes-e g s i e in elim (j .into i (f .0) (cut-at s b (g .n) eb (f .0) (f .1) ∙ f .2) (rw ep (f .3))) [
+      | inl o ↦ o
+      | inr o ↦ clash (member rest (f .0)) o (empty-n rest (f .0) z)
+    ]))
 
 -- ---- the first live way
 

@@ -5,7 +5,6 @@ ghost use mathlib.Core.Path.{_≡_};
 ghost use mathlib.Core.Bool.{cond};
 ghost use Prim.Native.Nat.{_≤_, _<_};
 ghost use lib.Bits.{bitOr};
-ghost use Rattle.sets.specs.Sets.{member};
 ghost use Rattle.network.specs.Network.{wayOf};
 ghost use Rattle.standing.specs.Standing.{placed, matters, moved, standingOf};
 ghost use Rattle.standing.specs.Ways.{preceding, lostIn, live, firstLive};
@@ -94,22 +93,39 @@ impl Standing {
     }
 }
 
-// One look at the codes: how the first n bookings stand.
+// The set s, with the set b where it is here.
+fn joined(s: u64, here: bool, b: u64) -> u64
+    ensures { λ t. ⌜ t ≡ cond here (bitOr s b) s ⌝ }
+{
+    if here { s | b } else { s }
+}
+
+// One look at the codes: how the first n bookings stand. Each booking is looked at once, so it is put into its set and taken out of none.
 pub fn look(code: [u8; 64], n: usize) -> Standing
     requires { ⌜ n ≤ 64 ⌝ }
     ensures { λ s. ⌜ s ≡ standingOf code n ⌝ }
 {
-    let mut s = Standing {
-        free: 0,
-        requested: 0,
-        held: 0,
-        lost: 0,
-        returning: 0,
-    };
+    let mut free: u64 = 0;
+    let mut requested: u64 = 0;
+    let mut held: u64 = 0;
+    let mut lost: u64 = 0;
+    let mut returning: u64 = 0;
     for i in 0..n {
-        s = s.moved(sets::bit(i), code[i]);
+        let c = code[i];
+        let b = sets::bit(i);
+        free = joined(free, c == FREE, b);
+        requested = joined(requested, c == REQUESTED, b);
+        held = joined(held, c == HELD, b);
+        lost = joined(lost, c == LOST, b);
+        returning = joined(returning, c == RETURNING, b);
     }
-    s
+    Standing {
+        free,
+        requested,
+        held,
+        lost,
+        returning,
+    }
 }
 
 // The bookings of way w; no way has none.
@@ -123,22 +139,17 @@ pub fn way_of(g: Network, ways: &[u64; 16], w: usize) -> u64
     ways[w - 1]
 }
 
-// The set r, with the set x where v is in s.
-fn joined(r: u64, s: u64, v: usize, x: u64) -> u64
-    requires { ⌜ v < 64 ⌝ }
-    ensures { λ t. ⌜ t ≡ cond (member s v) (bitOr r x) r ⌝ }
-{
-    if sets::has(s, v) { r | x } else { r }
-}
-
-// The bookings that precede some member of s.
+// The bookings that precede some member of s. Only the members are looked at; the cut keeps to bookings of the plan.
 pub fn preceding(g: Network, before: &[u64; 64], s: u64) -> u64
     requires { ⌜ (now before ≡ g .before) × (g .n ≤ 64) ⌝ }
     ensures { λ r. ⌜ r ≡ preceding g s ⌝ }
 {
     let mut r: u64 = 0;
-    for v in 0..g.n {
-        r = joined(r, s, v, before[v]);
+    let mut rest = s & sets::all_below(g.n);
+    while rest != 0 {
+        let v = sets::lowest(rest);
+        r = r | before[v];
+        rest = sets::but_lowest(rest);
     }
     r
 }
