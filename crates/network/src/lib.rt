@@ -7,8 +7,8 @@ ghost use Rattle.plan.specs.Outline.{planOf};
 ghost use Rattle.network.specs.FromPlan.{oneOf, isFirm, isExposed, ofKind, directOf, desksOf, networkOf, Ends, Seated};
 
 // A plan as the rules see it. Booking number b is index b - 1 and bit b - 1 of every set; way[k] is way number k + 1.
-// before[v] has all bookings that precede v, by one link or by a chain of links. desk[d] has the bookings of desk number d + 1, each of
-// which may have as many matters open as the limit says.
+// before[v] has all bookings that precede v, by one link or by a chain of links. desk[d] has the bookings of desk number d + 1; limit is how
+// many matters a desk may have open.
 pub struct Network {
     pub n: usize,
     pub a: usize,

@@ -27,10 +27,14 @@ use Rattle.standing.specs.Standing.{matters, moved}
 use Rattle.standing.proofs.Codes.{moved-is}
 use Rattle.run.specs.declared.Run.{Run}
 use Rattle.run.specs.State.{standing, put}
-use Rattle.run.specs.Orders.{passed, mayReturn, toReturn, mayRequest, toRequest}
+use Rattle.run.specs.Orders.{passed, allPassed, mayReturn, toReturn, mayRequest, toRequest}
 
--- the set of the bookings at a full desk
-full-at : (g : Network) (s : Standing) (full b : ℕ) → full ≡ fullOf (g .limit) (g .desk) (matters s) → b < 64 → member full b ≡ passed g s b
+-- the set of those that are passed over, as a caller works it out from desks ds and matters m
+pub passed-made : (g : Network) (s : Standing) (full : ℕ) (ds : List ℕ) (m : ℕ) → full ≡ fullOf (g .limit) ds m → ds ≡ g .desk → m ≡ matters s → full ≡ allPassed g s
+passed-made g s full ds m e ed em = rw (e, ed, em)
+
+-- its members
+full-at : (g : Network) (s : Standing) (full b : ℕ) → full ≡ allPassed g s → b < 64 → member full b ≡ passed g s b
 unfolding fullOf passed
 full-at g s full b e h = rw e (member-gather (deskFull (g .limit) (g .desk) (matters s)) 64 b h)
 
@@ -40,7 +44,7 @@ return-none g s way m e z =
     let none : (i : ℕ) → member (without (s .held) way) i ≡ false = λ i. ap (λ (x : ℕ). member x i) (sym e ∙ z) ∙ member-zero i in
     first-over (toReturn g s way) 64 64 (λ i h. and-no-l _ _ (and-no-l _ _ (none i))) (le-refl 64)
 
-pub return-is : (g : Network) (s : Standing) (way full x : ℕ) → full ≡ fullOf (g .limit) (g .desk) (matters s)
+pub return-is : (g : Network) (s : Standing) (way full x : ℕ) → full ≡ allPassed g s
     → x ≡ first (member (without (without (s .held) way) (bitOr (preceding g (bitOr (s .held) (s .returning))) full))) 64 → x ≡ first (toReturn g s way) 64
 unfolding toReturn mayReturn preceding
 return-is g s way full x ef e =
@@ -55,7 +59,7 @@ return-is g s way full x ef e =
 -- ---- rule 4, by the members of a set alone
 
 -- the free bookings of the way are looked at, of those below n, which are b, but for those at a full desk
-module _ (g : Network) (few : g .n ≤ 64) (s : Standing) (way b full t : ℕ) (eb : b ≡ allBelow (g .n)) (ef : full ≡ fullOf (g .limit) (g .desk) (matters s))
+module _ (g : Network) (few : g .n ≤ 64) (s : Standing) (way b full t : ℕ) (eb : b ≡ allBelow (g .n)) (ef : full ≡ allPassed g s)
     (et : t ≡ without (bitAnd (bitAnd (s .free) way) b) full) where
   -- what precedes them is read from bs
   pub looked-e : (bs : List ℕ) → bs ≡ g .before → (x : ℕ) → member t x ≡ true → (x < g .n) × (subsetOf (getD bs x 0) (s .held) ≡ toRequest g s way x)

@@ -6,7 +6,7 @@ use lib.Dec.{eqb, ltb}
 use lib.Bits.{bitAnd, bitOr}
 use Rattle.bounded.specs.Bounded.{first}
 use Rattle.sets.specs.Sets.{member, without, some}
-use Rattle.desks.specs.Desks.{deskFull}
+use Rattle.desks.specs.Desks.{deskFull, fullOf}
 use Rattle.network.specs.Network.{wayOf}
 use Rattle.network.specs.declared.Network.{Network}
 use Rattle.standing.specs.Standing.{requested, returning, matters}
@@ -21,6 +21,10 @@ use Rattle.run.specs.declared.Order.the-variants.{Request, Return, Wait,
 -- an order for b is passed over: its desk is full
 unfoldable pub passed : Network → Standing → ℕ → Bool
 passed g s b = deskFull (g .limit) (g .desk) (matters s) b
+
+-- the bookings for which it is so, as one set
+abbrev pub allPassed : Network → Standing → ℕ
+allPassed g s = fullOf (g .limit) (g .desk) (matters s)
 
 -- rule 2: b is held, outside the current way, and precedes no held or returning booking
 unfoldable pub mayReturn : Network → Standing → ℕ → ℕ → Bool

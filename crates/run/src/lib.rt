@@ -6,10 +6,9 @@ ghost use mathlib.Core.Path.{_≡_};
 ghost use Prim.Native.Nat.{_≤_, _<_};
 ghost use lib.ListN.{length};
 ghost use Rattle.bounded.specs.Bounded.{first};
-ghost use Rattle.desks.specs.Desks.{fullOf};
-ghost use Rattle.standing.specs.Standing.{matters, standingOf};
+ghost use Rattle.standing.specs.Standing.{standingOf};
 ghost use Rattle.run.specs.State.{put, start, standing};
-ghost use Rattle.run.specs.Orders.{toReturn, toRequest, next, orderOf};
+ghost use Rattle.run.specs.Orders.{allPassed, toReturn, toRequest, next, orderOf};
 ghost use Rattle.run.specs.Replies.{settle, wayAfter, afterNo, fits, misfits, reply};
 ghost use Rattle.run.specs.Bytes.{bytesOf, runOf};
 
@@ -42,7 +41,7 @@ pub struct Replied {
 
 // Rule 2: the lowest booking to return, or 64; those at a full desk are passed over.
 fn to_return(g: Network, before: &[u64; 64], full: u64, s: Standing, way: u64) -> usize
-    requires { ⌜ (now before ≡ g .before) × (g .n ≤ 64) × (full ≡ fullOf (g .limit) (g .desk) (matters s)) ⌝ }
+    requires { ⌜ (now before ≡ g .before) × (g .n ≤ 64) × (full ≡ allPassed g s) ⌝ }
     ensures { λ x. ⌜ x ≡ first (toReturn g s way) 64 ⌝ }
 {
     let outside = sets::minus(s.held, way);
@@ -56,7 +55,7 @@ fn to_return(g: Network, before: &[u64; 64], full: u64, s: Standing, way: u64) -
 // Rule 4: the lowest booking to request, or n; those at a full desk are passed over. Only the free bookings of the way are looked at, the
 // lowest first; the cut keeps to bookings of the plan.
 fn to_request(g: Network, before: &[u64; 64], full: u64, s: Standing, way: u64) -> usize
-    requires { ⌜ (now before ≡ g .before) × (g .n ≤ 64) × (full ≡ fullOf (g .limit) (g .desk) (matters s)) ⌝ }
+    requires { ⌜ (now before ≡ g .before) × (g .n ≤ 64) × (full ≡ allPassed g s) ⌝ }
     ensures { λ y. ⌜ y ≡ first (toRequest g s way) (g .n) ⌝ }
 {
     let mut rest = sets::minus(s.free & way & sets::all_below(g.n), full);
@@ -80,7 +79,7 @@ pub fn due_order(
     s: Standing,
     w: u8,
 ) -> Order
-    requires { ⌜ (now before ≡ g .before) × (now ways ≡ g .way) × (g .n ≤ 64) × (w ≤ 16) × (full ≡ fullOf (g .limit) (g .desk) (matters s)) ⌝ }
+    requires { ⌜ (now before ≡ g .before) × (now ways ≡ g .way) × (g .n ≤ 64) × (w ≤ 16) × (full ≡ allPassed g s) ⌝ }
     ensures { λ o. ⌜ o ≡ orderOf g s w ⌝ }
 {
     let way = standing::way_of(g, ways, w as usize);

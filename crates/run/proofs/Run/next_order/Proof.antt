@@ -1,15 +1,14 @@
 -- `run::Run::next_order` meets its contract.
 -- Assumes nothing.
-use mathlib.Core.Path.{_≡_, refl, sym, ap, _∙_}
-use Prim.Native.Nat.{ℕ}
+use mathlib.Core.Path.{_≡_, refl, sym, ap}
 use native.Mathlib.Omega.{arith}
 use borrow.Author.Needs.{needs}
-use Rattle.desks.specs.Desks.{fullOf}
 use Rattle.run.specs.Orders.{next, ordered}
 use Rattle.run.specs.declared.Run.{Run}
 use Rattle.run.specs.declared.Ordered.{Ordered}
 use Rattle.run.specs.declared.Order.{Order}
 use Rattle.run.proofs.Exits.{next-made, request-small, return-small}
+use Rattle.run.proofs.Steps.{passed-made}
 use Rattle.run.proofs.Run.next_order.Statement.{statement}
 use Rattle.run.proofs.Run.next_order.Tie as tie
 
@@ -26,7 +25,7 @@ due-order-requires : tie.Need-due-order-requires
 due-order-requires c κs =
     let f = c .before .before in
     let a = f .before .before .before .before .before .before in
-    (refl, refl, omega arith, omega arith, f .full .ensures ∙ ap (λ (m : ℕ). fullOf (a .args .g .limit) (a .args .g .desk) m) (f .before .matters .ensures))
+    (refl, refl, omega arith, omega arith, passed-made (a .args .g) (a .args .s) _ _ _ (f .full .ensures) refl (f .before .matters .ensures))
 
 put-requires : tie.Need-put-requires
 put-requires c κs = let d = c .before .before .before in request-small _ (from d .pre .0) _ _ _ (d .due-order .ensures) _ (c .before .order .given .1)
