@@ -12,22 +12,23 @@
  *     The run    campaign_start, campaign_next_order, campaign_reply,
  *                campaign_reply_block
  *     Journal    campaign_journal_line, campaign_restart
+ *     Bill       campaign_settle
  *
  *
  * What may be lent
  * ----------------
  * A pointer must reach as many bytes as its length says. A length of 0 lends
  * nothing, and the pointer may then be null: so an empty journal or block may be
- * lent as NULL, 0. What a call may write (state, line) must not overlap with
- * anything else that it is lent. Beyond that every byte and every length is
+ * lent as NULL, 0. What a call may write (state, line, report) must not overlap
+ * with anything else that it is lent. Beyond that every byte and every length is
  * allowed: what is wrong with them is answered by a refusal. A refused call
  * leaves every lent byte as it was; only campaign_reply_block keeps the replies
  * before a bad line of its block.
  *
  * Nothing is kept between the calls: all of a campaign stands in its sheet and
  * its state. Calls on different states may run at the same time; while a call
- * runs, nobody else may write its sheet, block or journal or touch its state or
- * line.
+ * runs, nobody else may write its sheet, block, journal or fees or touch its
+ * state, line or report.
  *
  *
  * The plan sheet
@@ -99,6 +100,14 @@ extern "C" {
 #define CAMPAIGN_BLOCK_LINE_LENGTH 6
 #define CAMPAIGN_JOURNAL_LINE_LENGTH 6
 
+/* A bill: bytes of a line of the fee sheet, of a booking's line and of the last
+   line in the report, and the most of them all; lines that a journal may have. */
+#define CAMPAIGN_FEE_LINE_LENGTH 18
+#define CAMPAIGN_SETTLED_LINE_LENGTH 30
+#define CAMPAIGN_TOTAL_LINE_LENGTH 14
+#define CAMPAIGN_LONGEST_REPORT 1934
+#define CAMPAIGN_MOST_SETTLED_LINES 10000
+
 /* What each booking's byte says. */
 enum campaign_code {
     CAMPAIGN_FREE = 0,      /* not asked for, or given back */
@@ -125,15 +134,16 @@ enum campaign_kind {
     CAMPAIGN_CALLED_OFF = 5,
     /* check, start: the sheet passes (0); reply: it was taken (the booking);
        block: all its replies were taken (their number); journal line: it was
-       written (its length, 6); restart: the journal is right (0). */
+       written (its length, 6); restart: the journal is right (0); settle: the
+       report was written (its length). */
     CAMPAIGN_ACCEPTED = 6
 };
 
 /*
  * The refusals; in brackets the place. Lines are counted from 1. Of several
  * faults the first is given: 1 to 3 line by line from the top (on one line 1,
- * then 2, then 3), then 4 to 8, then 11, then 9 or 12, then 10. Where 9 stands
- * here, a block has 1 or 9, whichever its first bad line has.
+ * then 2, then 3), then 4 to 8, then 11 or 14, then 9 or 12, then 13, then 10.
+ * Where 9 stands here, a block has 1 or 9, whichever its first bad line has.
  */
 enum campaign_refusal {
     /* Not refused. */
@@ -178,7 +188,13 @@ enum campaign_refusal {
     /* A whole line of the journal is not of its form, is not the order that
        was due there, or is a reply that does not fit (the line; 65535 for any
        line beyond). */
-    CAMPAIGN_WRONG_LINE = 12
+    CAMPAIGN_WRONG_LINE = 12,
+    /* A line of the fee sheet is not of its form, is out of sequence or is
+       missing, or bytes follow the last line (the fee sheet's line; for bytes
+       too many the line after the last). */
+    CAMPAIGN_WRONG_FEE = 13,
+    /* The journal has more than 10,000 whole lines, too many for a bill (0). */
+    CAMPAIGN_LONG_JOURNAL = 14
 };
 
 /* An answer is kind * 16777216 + refusal * 65536 + place. */
@@ -389,6 +405,45 @@ uint32_t campaign_journal_line(uint8_t letter, uint32_t booking,
 uint32_t campaign_restart(const uint8_t *sheet, size_t sheet_len,
                           const uint8_t *journal, size_t journal_len,
                           uint8_t *state, size_t state_len);
+
+/* ================================ Bill ================================ */
+
+/*
+ * A fee sheet has one line for each booking of the plan sheet, in order: F, the
+ * booking in four columns, the fee for a confirmation and the fee for a return,
+ * 0 to 999,999 in six columns each, a line feed. Nothing follows the last line.
+ * The numbers are written as on a plan sheet; zero is spaces and 0.
+ *
+ *     F   1   150    20      booking 1: 150 each time it is confirmed, 20 each
+ *                            time it is returned
+ *     F   2  4000     0
+ *
+ * The report has one line for each booking, in order: S, the booking in four
+ * columns, how often it was confirmed and how often returned in six columns
+ * each, its amount in twelve, a line feed. Then T and the total in twelve:
+ *
+ *     S   1     1     1         170
+ *     S   2     1     0        4000
+ *     T        4170
+ */
+
+/*
+ * The bill of a campaign from its journal: counted are each booking's lines
+ * with Y and with G. The campaign need not have ended, and a booking that was
+ * never confirmed has its line too. One to five bytes after the journal's last
+ * whole line are dropped.
+ *
+ * Accepted with the length of the report as place, 30 for each booking and 14;
+ * the report stands at the front of the lent bytes, and later bytes keep their
+ * values. Refused with 1 to 8 as by check, then with 14 if the journal has more
+ * than 10,000 whole lines, then with 12 as by restart, then with 13 and the
+ * first line of the fee sheet that is wrong, then with 10 if the report has no
+ * room in report_len bytes.
+ */
+uint32_t campaign_settle(const uint8_t *sheet, size_t sheet_len,
+                         const uint8_t *fees, size_t fees_len,
+                         const uint8_t *journal, size_t journal_len,
+                         uint8_t *report, size_t report_len);
 
 #ifdef __cplusplus
 }

@@ -6,6 +6,7 @@ use crate::journal;
 use crate::plan;
 use crate::refusal::Refusal;
 use crate::run::{Change, Order, Run, STATE_LENGTH};
+use crate::settle;
 
 const UNSOUND: Refusal = Refusal { number: 11, place: 0 };
 
@@ -113,6 +114,15 @@ pub fn restart(sheet: &[u8], journal: &[u8], state: &mut [u8]) -> u32 {
         let bytes = lent(state)?;
         *bytes = journal::replay(&network, journal).map_err(wrong)?.bytes();
         Ok(pack(6, 0, 0))
+    };
+    answer(step())
+}
+
+#[inline(never)]
+pub fn settle(sheet: &[u8], fees: &[u8], journal: &[u8], report: &mut [u8]) -> u32 {
+    let mut step = || {
+        let network = judge(sheet)?;
+        Ok(pack(6, 0, settle::settle(&network, fees, journal, report)?))
     };
     answer(step())
 }

@@ -3,8 +3,9 @@
 use crate::blocks::{self, block_of, Wide};
 use crate::campaign::{record, Dice, State};
 use crate::journal::LINE_LENGTH;
+use crate::settlements::{fees_for, LONGEST_REPORT};
 use crate::sheets::{Endless, Sheet};
-use crate::{calls, library, restart};
+use crate::{calls, library, restart, settlements};
 
 pub struct Compared {
     pub calls: usize,
@@ -48,6 +49,20 @@ impl Compared {
     }
 }
 
+/// Of a settlement the reports are compared, and what stands behind them.
+impl Compared {
+    fn settle(&mut self, sheet: &[u8], fees: &[u8], journal: &[u8], room: usize) {
+        let (mut here, mut there) = (vec![9; room], vec![9; room]);
+        let answer = library::settle(sheet, fees, journal, &mut here);
+        self.same(answer, calls::settle(sheet, fees, journal, &mut there), "settle", sheet);
+        if here != there {
+            let (here, there) = (String::from_utf8_lossy(&here), String::from_utf8_lossy(&there));
+            eprintln!("bench: settle: reports differ\n{here}\n{there}");
+            std::process::exit(1);
+        }
+    }
+}
+
 #[derive(Clone, Copy)]
 enum Step<'a> {
     Start,
@@ -72,6 +87,7 @@ fn damaged_sheets(compared: &mut Compared, sheet: &[u8], dice: &mut Dice, times:
         compared.step(&bytes, &[0; 65], "start, damaged sheet", Step::Start);
         compared.step(&bytes, &[0; 65], "restart, damaged sheet", Step::Restart(b"Q   1\nY   1\n"));
         compared.step(&bytes, &[1; 65], "block, damaged sheet", Step::Block(b"Y   1\nN   2\n"));
+        compared.settle(&bytes, b"F   1     3     2\n", b"Q   1\nY   1\n", 44);
     }
 }
 
@@ -112,6 +128,34 @@ fn restarts(compared: &mut Compared, sheet: &[u8], journal: &[u8], dice: &mut Di
     }
 }
 
+/// A fee sheet cut at a byte, with a byte changed, or with a line doubled, dropped or more behind it.
+fn damaged_fees(fees: &[u8], dice: &mut Dice) -> Vec<u8> {
+    let mut bytes = fees.to_vec();
+    let at = dice.below(bytes.len());
+    let line = at - at % 18;
+    match dice.below(5) {
+        0 => bytes.truncate(at),
+        1 => bytes[at] = b" 0123456789FfS\n\0"[dice.below(16)],
+        2 => bytes.extend_from_within(line..line + 18),
+        3 => drop(bytes.drain(line..line + 18)),
+        _ => bytes.push(b'F'),
+    }
+    bytes
+}
+
+/// A journal settled, with room of any length; the journal damaged, the fee sheet, or both.
+fn some_settlements(compared: &mut Compared, sheet: &[u8], journal: &[u8], dice: &mut Dice) {
+    let fees = fees_for(sheet);
+    let length = fees.len() / 18 * 30 + 14;
+    compared.settle(sheet, &fees, journal, LONGEST_REPORT);
+    for room in [0, dice.below(length), length - 1, length, length + 1] {
+        compared.settle(sheet, &fees, journal, room);
+        compared.settle(sheet, &damaged_fees(&fees, dice), journal, room);
+        compared.settle(sheet, &fees, &damaged_journal(journal, dice), room);
+        compared.settle(sheet, &damaged_fees(&fees, dice), &damaged_journal(journal, dice), room);
+    }
+}
+
 /// A reply to each open order, in any order, and such a block damaged.
 fn some_blocks(compared: &mut Compared, sheet: &[u8], state: &State, dice: &mut Dice) {
     let mut replies = Vec::new();
@@ -146,6 +190,7 @@ fn campaigns(compared: &mut Compared, sheet: &[u8], dice: &mut Dice, most: usize
         }
         compared.step(sheet, &[9; 65], "start", Step::Start);
         restarts(compared, sheet, &campaign.journal, dice);
+        some_settlements(compared, sheet, &campaign.journal, dice);
         if compared.calls - before > most {
             return;
         }
@@ -173,10 +218,33 @@ pub fn compare_restarts(sheets: &[Endless]) -> usize {
     let mut dice = Dice(1);
     for endless in sheets {
         let sheet = &endless.sheet.bytes;
-        for journal in restart::journals(endless) {
+        for journal in restart::journals(endless, &restart::LINES) {
             let right = calls::pack(6, 0, 0);
             compared.same(library::restart(sheet, &journal, &mut [9; 65]), right, "right journal", sheet);
             restarts(&mut compared, sheet, &journal, &mut dice);
+        }
+    }
+    compared.calls
+}
+
+/// The same for the journals that are settled; each of them must be, and none with a line more.
+pub fn compare_settlements(sheets: &[Endless]) -> usize {
+    let mut compared = Compared { calls: 0 };
+    let mut dice = Dice(1);
+    for endless in sheets {
+        let sheet = &endless.sheet.bytes;
+        let fees = fees_for(sheet);
+        let settled = calls::pack(6, 0, (fees.len() / 18 * 30 + 14) as u32);
+        for journal in settlements::journals(endless) {
+            let answer = library::settle(sheet, &fees, &journal, &mut [9; LONGEST_REPORT]);
+            compared.same(answer, settled, "settle, right journal", sheet);
+            some_settlements(&mut compared, sheet, &journal, &mut dice);
+        }
+        let longer = &restart::journals(endless, &[10_001])[0];
+        for (bytes, due) in [(60_005, settled), (60_006, calls::pack(0, 14, 0))] {
+            let answer = library::settle(sheet, &fees, &longer[..bytes], &mut [9; LONGEST_REPORT]);
+            compared.same(answer, due, "settle, around 10,000 lines", sheet);
+            compared.settle(sheet, &fees, &longer[..bytes], LONGEST_REPORT);
         }
     }
     compared.calls

@@ -18,17 +18,18 @@ fn take_order(run: &mut Run, network: &Network, letter: u8, booking: u32) -> Opt
     (booking == due as u32 + 1).then(|| run.give(&order))
 }
 
-/// Takes in a line; none if it is wrong here.
+/// Takes in a line and gives its booking; none if it is wrong here.
 #[inline]
-fn take(run: &mut Run, network: &Network, line: &[u8]) -> Option<()> {
+pub fn take(run: &mut Run, network: &Network, line: &[u8]) -> Option<u32> {
     if line[5] != b'\n' {
         return None;
     }
     let booking = number(&line[1..5])?;
     match line[0] {
-        b'Q' | b'U' => take_order(run, network, line[0], booking),
-        letter => run.reply(network, letter, booking).map(|_| ()),
+        b'Q' | b'U' => take_order(run, network, line[0], booking)?,
+        letter => run.reply(network, letter, booking).map(|_| ())?,
     }
+    Some(booking)
 }
 
 /// The run after the whole lines, from the start, or the number of the first wrong one.

@@ -28,6 +28,16 @@ extern "C" {
         state: *mut u8,
         state_len: usize,
     ) -> u32;
+    fn campaign_settle(
+        sheet: *const u8,
+        sheet_len: usize,
+        fees: *const u8,
+        fees_len: usize,
+        journal: *const u8,
+        journal_len: usize,
+        report: *mut u8,
+        report_len: usize,
+    ) -> u32;
 }
 
 // Safe: pointer and length come from one slice, and any bytes are allowed.
@@ -58,4 +68,12 @@ pub fn reply_block(sheet: &[u8], block: &[u8], state: &mut [u8]) -> u32 {
 pub fn restart(sheet: &[u8], journal: &[u8], state: &mut [u8]) -> u32 {
     let (lines, length) = (journal.as_ptr(), journal.len());
     unsafe { campaign_restart(sheet.as_ptr(), sheet.len(), lines, length, state.as_mut_ptr(), state.len()) }
+}
+
+pub fn settle(sheet: &[u8], fees: &[u8], journal: &[u8], report: &mut [u8]) -> u32 {
+    let ((plan, plan_length), (lines, length)) =
+        ((sheet.as_ptr(), sheet.len()), (journal.as_ptr(), journal.len()));
+    let (fees, fees_length, text, text_length) =
+        (fees.as_ptr(), fees.len(), report.as_mut_ptr(), report.len());
+    unsafe { campaign_settle(plan, plan_length, fees, fees_length, lines, length, text, text_length) }
 }

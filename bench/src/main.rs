@@ -15,11 +15,14 @@ mod plan;
 mod refusal;
 mod restart;
 mod run;
+mod settle;
+mod settlements;
 mod sheets;
 
 use blocks::Wide;
 use campaign::{record, Campaign, State};
 use measure::{measure, stack, Pass, Times};
+use settlements::{fees_for, LONGEST_REPORT};
 use sheets::Sheet;
 use std::hint::black_box;
 
@@ -140,7 +143,7 @@ fn calls_on<'a>(
     sheet: &'a [u8],
     state: State,
     reply: (State, u8, u32),
-    (block, journal): (&'a [u8], &'a [u8]),
+    (block, journal, fees): (&'a [u8], &'a [u8], &'a [u8]),
 ) -> Vec<(&'static str, Call<'a>, Call<'a>)> {
     let on = |call: fn(&[u8], &mut [u8]) -> u32| -> Call<'a> {
         Box::new(move || {
@@ -162,6 +165,10 @@ fn calls_on<'a>(
     };
     let block_to = |call| with_lines(call, reply.0, block);
     let restart_with = |call| with_lines(call, state, journal);
+    let settle = |call: fn(&[u8], &[u8], &[u8], &mut [u8]) -> u32| -> Call<'a> {
+        let mut report = [0; LONGEST_REPORT];
+        Box::new(move || _ = black_box(call(sheet, fees, journal, &mut report)))
+    };
     let check = |call: fn(&[u8]) -> u32| -> Call<'a> { Box::new(move || _ = black_box(call(sheet))) };
     vec![
         ("check", check(library::check), check(calls::check)),
@@ -170,6 +177,7 @@ fn calls_on<'a>(
         ("reply", reply_to(library::reply), reply_to(calls::reply)),
         ("reply block", block_to(library::reply_block), block_to(calls::reply_block)),
         ("restart", restart_with(library::restart), restart_with(calls::restart)),
+        ("settle", settle(library::settle), settle(calls::settle)),
     ]
 }
 
@@ -182,7 +190,8 @@ fn print_stack(sheets: &[Sheet]) {
         let campaign = long_campaign(&sheet.bytes);
         let state = campaign.orders[campaign.orders.len() / 2];
         let reply = campaign.replies[campaign.replies.len() / 2];
-        let lines = (&campaign::line(reply.1, reply.2)[..], &campaign.journal[..]);
+        let fees = fees_for(&sheet.bytes);
+        let lines = (&campaign::line(reply.1, reply.2)[..], &campaign.journal[..], &fees[..]);
         for (name, mut here, mut there) in calls_on(&sheet.bytes, state, reply, lines) {
             println!("| {} | {name} | {} | {} |", sheet.name, stack(&mut *here), stack(&mut *there));
         }
@@ -208,6 +217,7 @@ fn main() {
     }
     let endless = sheets::endless(&examples);
     compared += equal::compare_restarts(&endless);
+    compared += equal::compare_settlements(&endless);
     let wide: Vec<Wide> = sheets::for_blocks(&examples).into_iter().map(blocks::widest).collect();
     compared += equal::compare_blocks(&wide);
     println!("# The library and a Rust version on bit sets\n");
@@ -219,6 +229,7 @@ fn main() {
     print_calls(&sheets);
     blocks::print_blocks(&wide);
     restart::print_restart(&endless);
+    settlements::print_settlements(&endless[1..]);
     println!("## How the time grows\n");
     print_growth("With bookings", &by_bookings);
     print_growth("With links", &by_links);

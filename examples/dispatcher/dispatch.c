@@ -577,6 +577,30 @@ static bool journal_agrees(struct run *run)
     return restart_agrees(run, ask_restart(run, found), found);
 }
 
+/* The bill of the journal as it is now, which our books must agree with. */
+static bool settle(struct run *run, struct bill *bill)
+{
+    const char *fault = bill_settle(bill, run->task->fees, &run->books, run->journal);
+    return fault == NULL || blame(run, fault, bill->answer);
+}
+
+static bool settle_at_end(struct run *run)
+{
+    struct tally *tally = run->tally;
+    struct bill bill;
+    if (run->task->fees == NULL)
+        return true;
+    if (!settle(run, &bill))
+        return false;
+    tally->bills += bill.length > 0;
+    tally->unbilled += bill.length == 0;
+    tally->billed += bill.total;
+    tally->highest_bill = bill.total > tally->highest_bill ? bill.total : tally->highest_bill;
+    if (run->task->log != NULL)
+        bill_write(&bill, run->journal, run->task->log);
+    return true;
+}
+
 static bool ended(struct run *run, uint32_t answer)
 {
     if (books_coded(&run->books, CAMPAIGN_REQUESTED) != 0 || books_coded(&run->books, CAMPAIGN_RETURNING) != 0)
@@ -589,7 +613,7 @@ static bool ended(struct run *run, uint32_t answer)
     run->tally->most_matters = most > run->tally->most_matters ? most : run->tally->most_matters;
     if (run->task->log != NULL)
         books_write(&run->books, run->task->log);
-    return true;
+    return settle_at_end(run);
 }
 
 /* Waiting and ending change nothing. */
@@ -725,6 +749,10 @@ static bool start(struct run *run)
     if (campaign_kind_of(answer) != CAMPAIGN_ACCEPTED || !books_agree(run))
         return blame(run, "start did not begin with way 1 and all bookings free", answer);
     if (!take_up_journal(run))
+        return false;
+    /* Before any order goes out: what can't be billed later shows now. */
+    struct bill so_far;
+    if (run->task->fees != NULL && !settle(run, &so_far))
         return false;
     say(run, "campaign of seed %" PRIu64 ": %u bookings, %u ways, most matters open per desk %u; desks refuse %u in 100\n",
         run->task->seed, run->plan->bookings, run->plan->ways, run->plan->limit, run->desks.refusing);

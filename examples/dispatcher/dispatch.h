@@ -2,6 +2,7 @@
 #ifndef DISPATCH_H
 #define DISPATCH_H
 
+#include "bill.h"
 #include "journal.h"
 #include "plan.h"
 
@@ -16,14 +17,17 @@ struct tally {
     unsigned long switches;
     unsigned long blocks, most_at_once; /* replies that one block took */
     unsigned most_matters;              /* open at one desk at one time */
+    unsigned long bills, unbilled;      /* unbilled: the journal is too long */
+    uint64_t billed, highest_bill;
 };
 
 struct task {
     const struct plan *plan;
-    uint64_t seed;  /* of the desks */
-    uint64_t pause; /* milliseconds before each step */
-    bool blocks;    /* what has arrived is handed in together */
-    FILE *log;      /* null: none */
+    const struct fees *fees; /* null: no bill */
+    uint64_t seed;           /* of the desks */
+    uint64_t pause;          /* milliseconds before each step */
+    bool blocks;             /* what has arrived is handed in together */
+    FILE *log;               /* null: none */
 };
 
 enum outcome {
@@ -35,7 +39,8 @@ enum outcome {
 
 /*
  * Goes on with the campaign of this journal, which may be empty, and adds what
- * was done to the tally. All but the end has a message on stderr.
+ * was done to the tally. With fees the bill of the whole journal comes last. All
+ * but the end has a message on stderr.
  */
 enum outcome dispatch(const struct task *task, struct journal *journal, struct tally *tally);
 

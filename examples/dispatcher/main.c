@@ -1,12 +1,12 @@
 /*
  * A dispatcher over the campaign library, with simulated desks.
  *
- *     dispatcher [--seed N] [--pause MS] [--blocks] [--journal FILE | --campaigns N] PLANFILE
+ *     dispatcher [--seed N] [--pause MS] [--blocks] [--fees FILE] [--journal FILE | --campaigns N] PLANFILE
  *
  * One campaign writes its log; several are quiet and end in a summary. The
  * first has seed N, the next N + 1 and so on, so each can be repeated alone.
  * A campaign with a journal can be stopped at any moment and goes on when the
- * same command is given again.
+ * same command is given again. With a fee sheet it ends with its bill.
  */
 #include "dispatch.h"
 #include "words.h"
@@ -25,25 +25,30 @@ enum status {
     BAD_SHEET = 5,   /* the sheet is refused for another reason */
     NO_LOG = 6,      /* the log can't be written */
     NO_JOURNAL = 7,  /* the journal can't be read or written */
-    BAD_JOURNAL = 8  /* the journal is refused */
+    BAD_JOURNAL = 8, /* the journal is refused */
+    NO_FEES = 9,     /* the fee sheet can't be read */
+    BAD_FEES = 10    /* the fee sheet is refused */
 };
 
 static const char usage[] =
-    "usage: dispatcher [--seed N] [--pause MS] [--blocks] [--journal FILE | --campaigns N] PLANFILE\n"
+    "usage: dispatcher [--seed N] [--pause MS] [--blocks] [--fees FILE] [--journal FILE | --campaigns N] PLANFILE\n"
     "  --seed N        what the desks' answers are drawn from (1)\n"
     "  --pause MS      wait so many milliseconds before each step (0)\n"
     "  --blocks        replies that arrive together are handed in together, as one block\n"
+    "  --fees FILE     bill the campaign by the fee sheet in this file, when it has ended\n"
     "  --journal FILE  keep the campaign's journal in this file; if there is one already, go on from it\n"
     "  --campaigns N   run N campaigns quietly, each with the next seed, and print a summary\n"
     "status: 0 done, 1 fault in the library, 2 wrong option, 3 file can't be read,\n"
     "        4 file ends early, 5 sheet refused, 6 log can't be written,\n"
-    "        7 journal can't be read or written, 8 journal refused\n";
+    "        7 journal can't be read or written, 8 journal refused,\n"
+    "        9 fee sheet can't be read, 10 fee sheet refused\n";
 
 struct options {
     uint64_t seed;
     uint64_t pause;
     uint64_t campaigns; /* 0: one, with its log */
     const char *journal;
+    const char *fees;
     const char *path;
     bool blocks;
     bool help;
@@ -83,18 +88,26 @@ static uint64_t *number_named(struct options *options, const char *name)
     return strcmp(name, "--campaigns") == 0 ? &options->campaigns : NULL;
 }
 
+static const char **file_named(struct options *options, const char *name)
+{
+    if (strcmp(name, "--journal") == 0)
+        return &options->journal;
+    return strcmp(name, "--fees") == 0 ? &options->fees : NULL;
+}
+
 /* An option, and in value the word after it; used says whether it took that word. */
 static bool take_option(struct options *options, const char *name, const char *value, bool *used)
 {
     uint64_t *number = number_named(options, name);
+    const char **file = file_named(options, name);
     *used = true;
     if (number != NULL)
         return (take_number(value, number) && (number != &options->campaigns || *number > 0))
             || complain("a number must follow, for --campaigns at least 1", name);
-    if (strcmp(name, "--journal") == 0) {
-        if (options->journal != NULL || value == NULL || *value == '\0')
+    if (file != NULL) {
+        if (*file != NULL || value == NULL || *value == '\0')
             return complain("one file must follow, and only once", name);
-        options->journal = value;
+        *file = value;
         return true;
     }
     *used = false;
@@ -156,6 +169,28 @@ static enum status load(struct plan *plan, const char *path)
     return DONE;
 }
 
+/* The fee sheet is judged alone, by the bill of an empty journal: a wrong one makes no journal and sends nothing. */
+static enum status load_fees(struct fees *fees, const struct plan *plan, const char *path)
+{
+    struct bill bill;
+    if (!fees_load(fees, path)) {
+        fprintf(stderr, "dispatcher: %s: the fee sheet can't be read: %s\n", path, strerror(errno));
+        return NO_FEES;
+    }
+    uint32_t line = fees_parse(fees, plan);
+    if (line == 0)
+        return DONE;
+    const char *fault = bill_refused(&bill, fees, plan, line);
+    if (fault != NULL) {
+        fprintf(stderr, "dispatcher: FAULT: %s: %s\n", path, fault);
+        return FAULT;
+    }
+    fprintf(stderr, "dispatcher: %s: ", path);
+    words_write_refusal(stderr, campaign_refusal_of(bill.answer), campaign_place_of(bill.answer));
+    fputs("; nothing was sent\n", stderr);
+    return BAD_FEES;
+}
+
 static void write_summary(const struct plan *plan, const struct tally *t, const char *path)
 {
     printf("%s: %lu campaigns, each ended with exactly one way or nothing held\n", path, t->campaigns);
@@ -169,6 +204,10 @@ static void write_summary(const struct plan *plan, const struct tally *t, const 
     printf("  most matters open at a desk at once: %u, limit %u\n", t->most_matters, plan->limit);
     if (t->blocks > 0)
         printf("  %lu blocks; most replies taken at once: %lu\n", t->blocks, t->most_at_once);
+    if (t->bills > 0)
+        printf("  %lu bills, together %" PRIu64 ", the highest %" PRIu64 "\n", t->bills, t->billed, t->highest_bill);
+    if (t->unbilled > 0)
+        printf("  %lu journals were too long for a bill\n", t->unbilled);
 }
 
 static enum status run_campaign(const struct task *task, const char *path, struct tally *tally)
@@ -183,10 +222,11 @@ static enum status run_campaign(const struct task *task, const char *path, struc
     return status[outcome];
 }
 
-static enum status run_campaigns(const struct plan *plan, const struct options *options)
+static enum status run_campaigns(const struct plan *plan, const struct fees *fees, const struct options *options)
 {
     struct tally tally = {0};
-    struct task task = {.plan = plan, .seed = options->seed, .pause = options->pause, .blocks = options->blocks};
+    struct task task = {
+        .plan = plan, .seed = options->seed, .pause = options->pause, .blocks = options->blocks, .fees = fees};
     if (options->campaigns == 0) {
         task.log = stdout;
         return run_campaign(&task, options->journal, &tally);
@@ -221,9 +261,13 @@ int main(int count, char **words)
     if (options.journal != NULL || options.pause != 0)
         setvbuf(stdout, NULL, _IOLBF, BUFSIZ);
     struct plan plan;
+    struct fees fees = {0};
     enum status status = load(&plan, options.path);
+    if (status == DONE && options.fees != NULL)
+        status = load_fees(&fees, &plan, options.fees);
     if (status == DONE)
-        status = flush_log(run_campaigns(&plan, &options));
+        status = flush_log(run_campaigns(&plan, options.fees != NULL ? &fees : NULL, &options));
+    fees_free(&fees);
     plan_free(&plan);
     return status;
 }

@@ -1,37 +1,16 @@
 #include "plan.h"
 
-#include <errno.h>
+#include "file.h"
+
 #include <stdlib.h>
 
 /* One byte more than any sheet has, so that a longer file is seen to be one. */
 enum { MOST_BYTES = CAMPAIGN_LONGEST_SHEET + 1 };
 
-static bool take_bytes(struct plan *plan, FILE *file)
-{
-    uint8_t bytes[MOST_BYTES];
-    plan->length = fread(bytes, 1, sizeof bytes, file);
-    if (ferror(file))
-        return false;
-    /* Exactly as long as the sheet: a checker then sees a read past its end. */
-    plan->sheet = malloc(plan->length > 0 ? plan->length : 1);
-    if (plan->sheet == NULL)
-        return false;
-    for (size_t i = 0; i < plan->length; i++)
-        plan->sheet[i] = bytes[i];
-    return true;
-}
-
 bool plan_load(struct plan *plan, const char *path)
 {
     *plan = (struct plan) {0};
-    FILE *file = fopen(path, "rb");
-    if (file == NULL)
-        return false;
-    bool taken = take_bytes(plan, file);
-    int reason = errno;
-    fclose(file);
-    errno = reason;
-    return taken;
+    return file_read(path, MOST_BYTES, &plan->sheet, &plan->length);
 }
 
 void plan_free(struct plan *plan)

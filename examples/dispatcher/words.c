@@ -24,6 +24,8 @@ static const char *before_place(uint32_t refusal)
     case CAMPAIGN_UNUSED: return "a booking is in no way: booking";
     case CAMPAIGN_WAY_TWICE: return "a way equals an earlier one: way";
     case CAMPAIGN_MISFIT: return "the reply fits nothing that was asked: booking";
+    case CAMPAIGN_WRONG_FEE:
+        return "the fee sheet has a line that is malformed, out of sequence, missing or one too many: line";
     default: return NULL;
     }
 }
@@ -56,6 +58,8 @@ void words_write_refusal(FILE *out, uint32_t refusal, uint32_t place)
         fputs("a buffer is too short for the text", out);
     else if (refusal == CAMPAIGN_UNSOUND)
         fputs("the state is damaged or belongs to another sheet", out);
+    else if (refusal == CAMPAIGN_LONG_JOURNAL)
+        fputs("the journal has too many lines for a bill", out);
     else
         fputs("a number this program does not know", out);
 }

@@ -1,17 +1,10 @@
 /* The header alone: compiles first in its file and twice, as C11 and C++17;
    its constants are the rules' numbers; the linked calls answer as it says, which
-   was worked out by hand from the rules. */
+   was worked out by hand from the rules. settle.c does the same for the bill. */
 #include "campaign.h"
 #include "campaign.h"
 
-#include <stdio.h>
-#include <string.h>
-
-#ifdef __cplusplus
-#define FIXED(claim) static_assert(claim, #claim)
-#else
-#define FIXED(claim) _Static_assert(claim, #claim)
-#endif
+#include "expect.h"
 
 FIXED(CAMPAIGN_MOST_BOOKINGS == 64);
 FIXED(CAMPAIGN_MOST_LINKS == 512);
@@ -33,24 +26,16 @@ FIXED(CAMPAIGN_NUMBER == 3 && CAMPAIGN_CIRCLE == 4);
 FIXED(CAMPAIGN_WAY_NOT_CLOSED == 5 && CAMPAIGN_UNUSED == 6);
 FIXED(CAMPAIGN_WAY_TWICE == 7 && CAMPAIGN_STRANDING == 8);
 FIXED(CAMPAIGN_MISFIT == 9 && CAMPAIGN_SHORT_BUFFER == 10 && CAMPAIGN_UNSOUND == 11);
-FIXED(CAMPAIGN_WRONG_LINE == 12);
+FIXED(CAMPAIGN_WRONG_LINE == 12 && CAMPAIGN_WRONG_FEE == 13 && CAMPAIGN_LONG_JOURNAL == 14);
 
 FIXED(CAMPAIGN_CONFIRMED == 89 && CAMPAIGN_DECLINED == 78);
 FIXED(CAMPAIGN_RETURNED == 71 && CAMPAIGN_KEPT == 75);
 FIXED(CAMPAIGN_REQUEST_LETTER == 81 && CAMPAIGN_RETURN_LETTER == 85);
 FIXED(CAMPAIGN_BLOCK_LINE_LENGTH == 6 && CAMPAIGN_JOURNAL_LINE_LENGTH == 6);
 
-static int faults = 0;
-
-static void expect(const char *what, uint32_t answer, uint32_t kind, uint32_t refusal, uint32_t place)
-{
-    if (answer == kind * 16777216u + refusal * 65536u + place
-        && campaign_kind_of(answer) == kind && campaign_refusal_of(answer) == refusal
-        && campaign_place_of(answer) == place)
-        return;
-    fprintf(stderr, "header: %s: answer %lu\n", what, (unsigned long) answer);
-    faults++;
-}
+FIXED(CAMPAIGN_FEE_LINE_LENGTH == 1 + 4 + 6 + 6 + 1);
+FIXED(CAMPAIGN_SETTLED_LINE_LENGTH == 1 + 4 + 6 + 6 + 12 + 1 && CAMPAIGN_TOTAL_LINE_LENGTH == 1 + 12 + 1);
+FIXED(CAMPAIGN_LONGEST_REPORT == 64 * 30 + 14 && CAMPAIGN_MOST_SETTLED_LINES == 10000);
 
 static uint32_t check(const char *sheet)
 {
@@ -110,14 +95,6 @@ static void calls(void)
         faults++;
     }
     expect("end", campaign_next_order(sheet, length, state, sizeof state), CAMPAIGN_CALLED_OFF, 0, 0);
-}
-
-static void expect_bytes(const char *what, const void *found, const void *wanted, size_t length)
-{
-    if (memcmp(found, wanted, length) == 0)
-        return;
-    fprintf(stderr, "header: %s: other bytes\n", what);
-    faults++;
 }
 
 /* Eight bytes are lent as line_len bytes; those that are not written stay '.'. */
@@ -394,6 +371,8 @@ static void kepts(void)
     kept("a short buffer", 0, CAMPAIGN_SHORT_BUFFER, 0, 0);
     kept("an unsound state", 0, CAMPAIGN_UNSOUND, 0, 0);
     kept("a wrong line", 0, CAMPAIGN_WRONG_LINE, 3, 0);
+    kept("a wrong fee line", 0, CAMPAIGN_WRONG_FEE, 3, 0);
+    kept("a journal too long to be settled", 0, CAMPAIGN_LONG_JOURNAL, 0, 0);
     kept("a request", CAMPAIGN_REQUEST, 0, 3, 0);
     kept("a return", CAMPAIGN_RETURN, 0, 3, 0);
     kept("a wait", CAMPAIGN_WAIT, 0, 0, 0);

@@ -2,6 +2,7 @@
    from env LIE. The dispatcher must notice each. */
 #include "campaign.h"
 
+#include <stdio.h>
 #include <stdlib.h>
 #include <string.h>
 
@@ -13,6 +14,8 @@ uint32_t __real_campaign_reply_block(const uint8_t *sheet, size_t sheet_len, con
 uint32_t __real_campaign_journal_line(uint8_t letter, uint32_t booking, uint8_t *line, size_t line_len);
 uint32_t __real_campaign_restart(const uint8_t *sheet, size_t sheet_len, const uint8_t *journal, size_t journal_len,
                                  uint8_t *state, size_t state_len);
+uint32_t __real_campaign_settle(const uint8_t *sheet, size_t sheet_len, const uint8_t *fees, size_t fees_len,
+                                const uint8_t *journal, size_t journal_len, uint8_t *report, size_t report_len);
 uint32_t __wrap_campaign_next_order(const uint8_t *sheet, size_t sheet_len, uint8_t *state, size_t state_len);
 uint32_t __wrap_campaign_reply(const uint8_t *sheet, size_t sheet_len, uint8_t *state, size_t state_len,
                                uint8_t letter, uint32_t booking);
@@ -21,6 +24,8 @@ uint32_t __wrap_campaign_reply_block(const uint8_t *sheet, size_t sheet_len, con
 uint32_t __wrap_campaign_journal_line(uint8_t letter, uint32_t booking, uint8_t *line, size_t line_len);
 uint32_t __wrap_campaign_restart(const uint8_t *sheet, size_t sheet_len, const uint8_t *journal, size_t journal_len,
                                  uint8_t *state, size_t state_len);
+uint32_t __wrap_campaign_settle(const uint8_t *sheet, size_t sheet_len, const uint8_t *fees, size_t fees_len,
+                                const uint8_t *journal, size_t journal_len, uint8_t *report, size_t report_len);
 
 static int lie_is(const char *lie)
 {
@@ -204,5 +209,113 @@ uint32_t __wrap_campaign_restart(const uint8_t *sheet, size_t sheet_len, const u
                 state[i] = CAMPAIGN_FREE;
     if (lie_is("writes no state") && refusal == 0)
         memset(state, 0xA5, state_len);
+    return answer;
+}
+
+/* Bills. */
+
+static unsigned long number_in(const uint8_t *columns, size_t count)
+{
+    char text[16] = "";
+    memcpy(text, columns, count);
+    return strtoul(text, NULL, 10);
+}
+
+static void write_number(uint8_t *columns, int count, unsigned long number)
+{
+    char text[32];
+    snprintf(text, sizeof text, "%*lu", count, number);
+    memcpy(columns, text, (size_t) count);
+}
+
+static void add_to(uint8_t *columns, int count, int more)
+{
+    unsigned long number = number_in(columns, (size_t) count);
+    write_number(columns, count, more < 0 && number == 0 ? 0 : number + (unsigned long) more);
+}
+
+/* How many lines with this letter the journal has for a booking. */
+static unsigned long lines_of(uint8_t letter, unsigned long booking, const uint8_t *journal, size_t length)
+{
+    const size_t line = CAMPAIGN_JOURNAL_LINE_LENGTH;
+    unsigned long count = 0;
+    for (size_t at = 0; at + line <= length; at += line)
+        count += journal[at] == letter && number_in(journal + at + 1, 4) == booking;
+    return count;
+}
+
+/* Lines of a report are changed; columns 5 and 11 begin the counts, 17 the amount, and in the last line 1 the total. */
+static void bill_wrongly(uint8_t *report, size_t lines, const uint8_t *journal, size_t journal_len)
+{
+    const size_t line = CAMPAIGN_SETTLED_LINE_LENGTH;
+    uint8_t amount[12];
+    for (size_t i = 0; i < lines; i++) {
+        uint8_t *at = report + i * line;
+        if (lie_is("bills a confirmation too many"))
+            add_to(at + 5, 6, 1);
+        if (lie_is("bills a return too few"))
+            add_to(at + 11, 6, -1);
+        if (lie_is("bills what was kept"))
+            add_to(at + 11, 6, (int) lines_of(CAMPAIGN_KEPT, i + 1, journal, journal_len));
+        if (lie_is("bills what was refused"))
+            add_to(at + 5, 6, (int) lines_of(CAMPAIGN_DECLINED, i + 1, journal, journal_len));
+        if (lie_is("bills an amount too high"))
+            add_to(at + 17, 12, 1);
+    }
+    if (lie_is("bills the last booking at the first")) {
+        memcpy(amount, report + 17, sizeof amount);
+        memcpy(report + 17, report + (lines - 1) * line + 17, sizeof amount);
+        memcpy(report + (lines - 1) * line + 17, amount, sizeof amount);
+    }
+    if (lie_is("bills another total"))
+        add_to(report + lines * line + 1, 12, 1);
+    if (lie_is("writes the total to the left"))
+        memmove(report + lines * line + 1, report + lines * line + 2, 11);
+    if (lie_is("writes behind the bill"))
+        report[lines * line + CAMPAIGN_TOTAL_LINE_LENGTH] = 0;
+}
+
+/* The fee for a confirmation in place of that for a return, and the other way round. */
+static const uint8_t *fees_crosswise(const uint8_t *fees, size_t fees_len)
+{
+    static uint8_t crosswise[CAMPAIGN_MOST_BOOKINGS * CAMPAIGN_FEE_LINE_LENGTH + 1];
+    memcpy(crosswise, fees, fees_len);
+    for (size_t at = 0; at + CAMPAIGN_FEE_LINE_LENGTH <= fees_len; at += CAMPAIGN_FEE_LINE_LENGTH) {
+        memcpy(crosswise + at + 5, fees + at + 11, 6);
+        memcpy(crosswise + at + 11, fees + at + 5, 6);
+    }
+    return crosswise;
+}
+
+uint32_t __wrap_campaign_settle(const uint8_t *sheet, size_t sheet_len, const uint8_t *fees, size_t fees_len,
+                                const uint8_t *journal, size_t journal_len, uint8_t *report, size_t report_len)
+{
+    const size_t line = CAMPAIGN_JOURNAL_LINE_LENGTH;
+    size_t whole = journal_len - journal_len % line;
+    uint32_t length = 30 * (uint32_t) number_in(sheet + 1, 4) + 14;
+    if (lie_is("bills without the last line") && whole > 0)
+        journal_len = whole - line;
+    if (lie_is("bills the first lines of a long journal") && whole / line > CAMPAIGN_MOST_SETTLED_LINES)
+        journal_len = CAMPAIGN_MOST_SETTLED_LINES * line;
+    if (lie_is("bills at the other fee"))
+        fees = fees_crosswise(fees, fees_len);
+    uint32_t answer = __real_campaign_settle(sheet, sheet_len, fees, fees_len, journal, journal_len, report, report_len);
+    uint32_t refusal = campaign_refusal_of(answer);
+    if (refusal == 0)
+        bill_wrongly(report, length / 30, journal, journal_len);
+    if (lie_is("says a bill too long") && refusal == 0)
+        return answer + 1;
+    if (lie_is("refuses a right fee sheet") && refusal == 0)
+        return (uint32_t) CAMPAIGN_WRONG_FEE << 16 | 1;
+    if (lie_is("takes a wrong fee sheet") && refusal == CAMPAIGN_WRONG_FEE)
+        return packed(CAMPAIGN_ACCEPTED, length);
+    if (lie_is("names another line of the fees") && refusal == CAMPAIGN_WRONG_FEE)
+        return answer + 1;
+    if (lie_is("calls wrong fees a wrong journal") && refusal == CAMPAIGN_WRONG_FEE)
+        return (uint32_t) CAMPAIGN_WRONG_LINE << 16 | campaign_place_of(answer);
+    if (lie_is("writes though it refuses the fees") && refusal == CAMPAIGN_WRONG_FEE)
+        report[0] = 'S';
+    if (lie_is("calls a long journal wrong") && refusal == CAMPAIGN_LONG_JOURNAL)
+        return (uint32_t) CAMPAIGN_WRONG_LINE << 16 | CAMPAIGN_MOST_SETTLED_LINES;
     return answer;
 }

@@ -9,10 +9,11 @@
  *     stops mixed DISPATCHER FOLDER SHEET..      cut at every line, and gone on with blocks where there were none, or
  *                                                without them
  *     stops --blocks ..                          replies in blocks, before the stop and after it
+ *     stops [--blocks] --fees ..                 with a fee sheet, and so with a bill at the end
  *
  * What a campaign that was stopped must come to is taken from one that was not:
- * the same books, the same journal. Works in FOLDER; the first difference ends
- * it with status 1.
+ * the same books, the same journal, the same bill. Works in FOLDER; the first
+ * difference ends it with status 1.
  */
 #define _POSIX_C_SOURCE 200809L
 #include <fcntl.h>
@@ -46,7 +47,8 @@ struct campaign {
 static const char *dispatcher;
 static char journal[4096]; /* paths */
 static char output[4096];
-static bool blocks;
+static char fees[4096];
+static bool blocks, billed;
 
 static struct {
     unsigned long campaigns, cuts, tails, damaged, foreign, refused, kills, in_write, full, sent_again, discarded;
@@ -133,10 +135,52 @@ static unsigned below(unsigned bound)
     return (unsigned) ((mixed ^ (mixed >> 31)) % bound);
 }
 
+/* Bills. */
+
+static unsigned long fee_of(char letter, int booking)
+{
+    unsigned long fee = (letter == 'Y' ? 7919ul : 104729ul) * (unsigned long) booking % 1000003ul;
+    return fee <= 999999 ? fee : 0;
+}
+
+static void write_fees(const char *sheet)
+{
+    struct bytes plan = read_file(sheet);
+    FILE *file = fopen(fees, "wb");
+    int bookings;
+    if (file == NULL || sscanf(plan.at, "P%4d", &bookings) != 1)
+        fail(NULL, "no fee sheet for %s", sheet);
+    for (int booking = 1; booking <= bookings; booking++)
+        fprintf(file, "F%4d%6lu%6lu\n", booking, fee_of('Y', booking), fee_of('G', booking));
+    if (fclose(file) != 0)
+        fail(NULL, "%s can't be written", fees);
+    free(plan.at);
+}
+
+/* The total by the journal's lines is the last line of a bill. */
+static void check_bill(const struct campaign *campaign)
+{
+    char last[32];
+    unsigned long total = 0;
+    for (size_t at = 0; at < campaign->journal.length; at += LINE)
+        if (strchr("YG", campaign->journal.at[at]) != NULL)
+            total += fee_of(campaign->journal.at[at], atoi(campaign->journal.at + at + 1));
+    snprintf(last, sizeof last, "\nT%12lu\n", total);
+    size_t length = strlen(last);
+    if (campaign->books.length < length || strcmp(campaign->books.at + campaign->books.length - length, last) != 0)
+        fail(campaign, "no bill, or another total than%s", last);
+}
+
 /* Running the dispatcher. */
 
 static pid_t launch(const struct campaign *campaign, const char *pause)
 {
+    const char *more[4] = {NULL};
+    size_t count = 0;
+    if (billed)
+        more[count++] = "--fees", more[count++] = fees;
+    if (blocks)
+        more[count++] = "--blocks";
     char seed[16];
     snprintf(seed, sizeof seed, "%u", campaign->seed);
     int file = open(output, O_WRONLY | O_CREAT | O_TRUNC, 0666);
@@ -149,8 +193,8 @@ static pid_t launch(const struct campaign *campaign, const char *pause)
     }
     if (dup2(file, 1) < 0 || dup2(file, 2) < 0)
         _exit(120);
-    execl(dispatcher, dispatcher, "--seed", seed, "--pause", pause, "--journal", journal, campaign->sheet,
-          blocks ? "--blocks" : (char *) NULL, (char *) NULL);
+    execl(dispatcher, dispatcher, "--seed", seed, "--pause", pause, "--journal", journal, campaign->sheet, more[0],
+          more[1], more[2], (char *) NULL);
     _exit(121);
 }
 
@@ -228,6 +272,8 @@ static struct campaign fly(const char *sheet, unsigned seed)
 {
     struct campaign campaign = {.sheet = sheet, .seed = seed};
     unlink(journal);
+    if (billed)
+        write_fees(sheet);
     int status = run(&campaign);
     struct bytes log = read_file(output);
     if (status != 0)
@@ -237,6 +283,8 @@ static struct campaign fly(const char *sheet, unsigned seed)
     campaign.within = find_blocks(log.at, campaign.journal.length / LINE);
     if (campaign.books.length == 0 || campaign.journal.length == 0 || campaign.journal.length % LINE != 0)
         fail(&campaign, "without a stop: no books, or no whole lines");
+    if (billed)
+        check_bill(&campaign);
     free(log.at);
     return campaign;
 }
@@ -412,10 +460,12 @@ static void check_variety(void)
         fail(NULL, "hardly a stop within a block");
 }
 
-static void print_blocks(void)
+static void print_manner(void)
 {
     if (blocks)
         printf("stops: replies in blocks, %lu of the stops within the lines of one\n", met.within);
+    if (billed)
+        printf("stops: and the same bill, its total that of the journal's lines\n");
 }
 
 static void bytes_mode(char **sheets)
@@ -451,7 +501,7 @@ static void bytes_mode(char **sheets)
            met.campaigns, met.cuts, met.tails, met.sent_again, met.discarded, met.letters['Q'], met.letters['U'],
            met.letters['Y'], met.letters['N'], met.letters['G'], met.letters['K'], met.called_off, met.switches,
            met.damaged, met.foreign, met.refused);
-    print_blocks();
+    print_manner();
 }
 
 /* Stopped by the disk (see disk.c). */
@@ -527,7 +577,7 @@ static void disk_mode(char **sheets)
     printf("stops: %lu campaigns over a disk of short writes, at every byte killed within the write, %lu times, and full, %lu times: "
            "the same books and journal\n",
            met.campaigns, met.in_write, met.full);
-    print_blocks();
+    print_manner();
 }
 
 /* Killed at random moments. */
@@ -593,7 +643,7 @@ static void kills_mode(unsigned long wanted, char **sheets)
     printf("stops: %lu campaigns killed %lu times while they ran, %lu times with part of a line written, %lu orders sent again, "
            "%lu repeated replies discarded: the same books and journal\n",
            met.campaigns, met.kills, met.tails, met.sent_again, met.discarded);
-    print_blocks();
+    print_manner();
 }
 
 /* Gone on in the other manner. */
@@ -678,16 +728,20 @@ int main(int count, char **words)
     blocks = count > 1 && strcmp(words[1], "--blocks") == 0;
     words += blocks;
     count -= blocks;
+    billed = count > 1 && strcmp(words[1], "--fees") == 0;
+    words += billed;
+    count -= billed;
     bool kills = count > 2 && strcmp(words[1], "kills") == 0;
     unsigned long wanted = kills ? strtoul(words[2], NULL, 10) : 0;
     char **rest = words + (kills ? 3 : 2);
     if (count - (rest - words) < 3) {
-        fprintf(stderr, "usage: stops [--blocks] (bytes | disk | mixed | kills COUNT) DISPATCHER FOLDER SHEET..\n");
+        fprintf(stderr, "usage: stops [--blocks] [--fees] (bytes | disk | mixed | kills COUNT) DISPATCHER FOLDER SHEET..\n");
         return 2;
     }
     dispatcher = rest[0];
     snprintf(journal, sizeof journal, "%s/journal", rest[1]);
     snprintf(output, sizeof output, "%s/output", rest[1]);
+    snprintf(fees, sizeof fees, "%s/fees", rest[1]);
     if (kills)
         kills_mode(wanted, rest + 2);
     else if (strcmp(words[1], "disk") == 0)

@@ -18,12 +18,12 @@ use Rattle.run.specs.declared.Run.{Run}
 use Rattle.run.specs.declared.Replied.{Replied}
 use Rattle.run.proofs.Cases.{ReplyCase, misfit, confirmed, refused, again, returned, kept, reply-case}
 use Rattle.guarantee.specs.Machine.{replyTo, after, final}
-use Rattle.event_lines.specs.Line.{lineOf, isOrder}
+use Rattle.event_lines.specs.Line.{lineOf, isOrder, linesFrom}
 use Rattle.event_lines.specs.declared.Line.{Line}
 use Rattle.event_lines.specs.declared.Line.the-variants.{Given, Misformed}
 use Rattle.event_lines.proofs.LineLaws.{other-size}
 use Rattle.lent_state.specs.Lines.{lineBy, lineFault, Lines, takenFrom, takenOf}
-use Rattle.block_calls.specs.Block.{linesFrom, linesOf, keptOf, faultOf, Block, blockOf, withTail}
+use Rattle.block_calls.specs.Block.{linesOf, keptOf, faultOf, Block, blockOf, withTail}
 
 -- ---- the lines from a place on
 

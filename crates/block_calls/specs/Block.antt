@@ -2,10 +2,10 @@
 -- Assumes nothing.
 use mathlib.Core.Bool.{cond}
 use mathlib.Core.List.{List, [], _∷_}
-use Prim.Native.Nat.{ℕ, zero, suc, _+_, _/_, _%_}
+use Prim.Native.Nat.{ℕ, _+_, _/_, _%_}
 use lib.Dec.{eqb}
-use lib.ListN.{length, take, drop}
-use Rattle.event_lines.specs.Line.{lineOf}
+use lib.ListN.{length, drop}
+use Rattle.event_lines.specs.Line.{linesFrom}
 use Rattle.event_lines.specs.declared.Line.{Line}
 use Rattle.event_lines.specs.declared.Line.the-variants.{Given, Misformed}
 use Rattle.network.specs.declared.Network.{Network}
@@ -16,11 +16,7 @@ use Rattle.guarantee.specs.Answers.{pack}
 use Rattle.guarantee.specs.Machine.{Asked, replied, replyTo, final}
 use Rattle.calls.specs.Calls.{networkIn, inOrder, refusedWith}
 
--- so many lines of six bytes, and all lines of a block; fewer bytes at the end are a line too, an unfinished one, and so misformed
-unfoldable pub linesFrom : ℕ → List ℕ → List Line
-linesFrom zero rest = []
-linesFrom (suc more) rest = lineOf (take 6 rest) ∷ linesFrom more (drop 6 rest)
-
+-- all lines of a block; fewer than six bytes at the end are a line too, an unfinished one, and so misformed
 unfoldable pub linesOf : List ℕ → List Line
 linesOf block = linesFrom ((length block + 5) / 6) block
 

@@ -6,6 +6,7 @@ ghost use lib.ListN.{length};
 ghost use Rattle.block_calls.specs.Block.{blockCall, blockLeaves};
 ghost use Rattle.journal_calls.specs.Journal.{journalLineCall, journalLineLeaves};
 ghost use Rattle.journal_calls.specs.Restart.{restartCall, restartLeaves};
+ghost use Rattle.settle_calls.specs.Settle.{settleCall, settleLeaves};
 
 // ---- sheets
 
@@ -73,4 +74,20 @@ pub extern "C" fn campaign_restart(sheet: &[u8], journal: &[u8], state: &mut [u8
     ensures left { λ _. ⌜ now (state .exit) ≡ restartLeaves (now (sheet .entry)) (now (journal .entry)) (now (state .entry)) ⌝ }
 {
     journal_calls::restart(sheet, journal, state)
+}
+
+// ---- accounts
+
+// Writes the bill of a plan sheet, a fee sheet and a journal at the front of the lent bytes.
+#[no_mangle]
+pub extern "C" fn campaign_settle(
+    sheet: &[u8],
+    fees: &[u8],
+    journal: &[u8],
+    report: &mut [u8],
+) -> u32
+    ensures answer { λ r. ⌜ r ≡ settleCall (now (sheet .entry)) (now (fees .entry)) (now (journal .entry)) (length (now (report .entry))) ⌝ }
+    ensures left { λ _. ⌜ now (report .exit) ≡ settleLeaves (now (sheet .entry)) (now (fees .entry)) (now (journal .entry)) (now (report .entry)) ⌝ }
+{
+    settle_calls::settle(sheet, fees, journal, report)
 }

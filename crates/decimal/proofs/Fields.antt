@@ -1,11 +1,12 @@
 -- A field inside a line: what a reader that goes on from field to field has in hand.
 -- Assumes nothing.
-use Prim.Native.Nat.{ℕ, _+_, _^_, _<_}
+use Prim.Native.Nat.{ℕ, suc, _+_, _*_, _%_, _^_, _≤_, _<_}
 use mathlib.Core.Path.{_≡_, sym, ap, _∙_}
 use mathlib.Core.List.{List, _++_}
-use lib.ListN.{take, drop, take-append-drop}
-use lib.Seq.{drop-drop, take-at}
-use Rattle.decimal.specs.Decimal.{columns, fieldAt, numberAt}
+use native.Mathlib.Omega.{arith}
+use lib.ListN.{getD, take, drop, take-append-drop}
+use lib.Seq.{drop-drop, take-at, getD-take, getD-drop}
+use Rattle.decimal.specs.Decimal.{columns, valueOf, fieldAt, numberAt}
 use Rattle.decimal.specs.declared.Field.{Field}
 use Rattle.decimal.specs.declared.Field.the-variants.{Number, Fault}
 use Rattle.decimal.proofs.Laws.{Reads, read-written, value-written, columns-no-fault, columns-length, written-read}
@@ -48,3 +49,20 @@ field-front w x rest h = rw (take-at (columns w x) rest w (columns-length w x)) 
 pub field-text : (w at : ℕ) (line : List ℕ) (y : ℕ) → fieldAt w at line ≡ Number y → take w (drop at line) ≡ columns w y
 unfolding fieldAt
 field-text w at line y e = read-written w (take w (drop at line)) y e .text
+
+-- ---- the value of w columns, one after the other
+
+-- one digit more
+pub digit-on : (w at i x b d : ℕ) (line : List ℕ) → i < w → x ≡ valueOf i (take w (drop at line)) → b ≡ getD line (at + i) 0 → d ≡ b % 16
+    → x * 10 + d ≡ valueOf (i + 1) (take w (drop at line))
+unfolding valueOf
+digit-on w at i x b d line h e f g =
+    let s : List ℕ = take w (drop at line) in
+    let n : i + 1 ≡ suc i = omega arith in
+    let y : getD s i 0 ≡ getD line (at + i) 0 = getD-take w (drop at line) i 0 h ∙ getD-drop at line i 0 in
+    rw (n, y, ← f, ← g, ← e)
+
+-- all of them
+pub value-all : (w at i x : ℕ) (line : List ℕ) → i ≤ w → w ≤ i → x ≡ valueOf i (take w (drop at line)) → x ≡ numberAt w at line
+unfolding numberAt
+value-all w at i x line h l e = let n : i ≡ w = omega arith in rw n at e

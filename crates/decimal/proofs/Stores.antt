@@ -1,13 +1,13 @@
 -- The laws of `sets`, bytes stored one after the other from a place on; what lies past the end is not stored.
 -- Assumes nothing.
 use Prim.Native.Nat.{ℕ, suc, _+_, _≤_, _<_}
-use mathlib.Core.Path.{_≡_, refl, ap, _∙_, sym}
+use mathlib.Core.Path.{_≡_, ap, _∙_, sym}
 use mathlib.Core.List.{List, [], _∷_, _++_}
 use native.Mathlib.Omega.{arith}
 use native.Mathlib.Nat.{add-zero}
 use native.Mathlib.Numerals.{add-one}
 use lib.ListN.{length, getD, take, set}
-use lib.Seq.{sets, set-comm, take-suc, length-take-le, length-sets}
+use lib.Seq.{sets, take-suc, length-take-le, length-sets}
 
 -- one text after another
 pub sets-append : (d : List ℕ) (i : ℕ) (a b : List ℕ) → sets d i (a ++ b) ≡ sets (sets d i a) (i + length a) b
@@ -21,16 +21,6 @@ pub sets-turn : (d : List ℕ) (at : ℕ) (s : List ℕ) (j : ℕ) → j < lengt
 sets-turn d at s j h =
     let n : length (take j s) ≡ j = length-take-le j s (omega arith) in
     rw (add-one, take-suc s j 0 h, sets-append, n)
-
--- a byte past the text may be stored before it
-sets-past : (d : List ℕ) (at : ℕ) (a : List ℕ) (j c : ℕ) → at + length a ≤ j → set (sets d at a) j c ≡ sets (set d j c) at a
-sets-past d at [] j c h = refl
-sets-past d at (x ∷ a) j c h =
-    sets-past (set d at x) (suc at) a j c (omega arith) ∙ ap (λ (l : List ℕ). sets l (suc at) a) (set-comm d at j x c (λ e. omega arith))
-
--- the last byte first
-pub sets-last : (d : List ℕ) (at : ℕ) (a : List ℕ) (c : ℕ) → sets d at (a ++ (c ∷ [])) ≡ sets (set d (at + length a) c) at a
-sets-last d at a c = sets-append d at a (c ∷ []) ∙ sets-past d at a (at + length a) c (omega arith)
 
 -- one piece more, as a writer stores it: a stands at at, b after it
 pub sets-next : (d x y : List ℕ) (at p : ℕ) (a b : List ℕ) → p ≡ at + length a → x ≡ sets d at a → y ≡ sets x p b → y ≡ sets d at (a ++ b)

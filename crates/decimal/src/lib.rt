@@ -8,7 +8,7 @@ ghost use lib.Dec.{eqb, leb, ltb};
 ghost use lib.ListN.{length, getD, take, drop};
 ghost use lib.Seq.{sets};
 ghost use Rattle.bounded.specs.Bounded.{first};
-ghost use Rattle.decimal.specs.Decimal.{begun, column, columns, sameBytes, fieldOf, fieldAt};
+ghost use Rattle.decimal.specs.Decimal.{begun, column, columnsTo, columns, sameBytes, fieldOf, fieldAt, numberAt};
 
 // What a number field holds.
 pub enum Field {
@@ -123,6 +123,20 @@ pub fn field_at(line: &[u8], at: usize, w: usize) -> Field
     read_field(part(line, at, w), w)
 }
 
+// The number in the w columns that start at at, where it is known that they hold one.
+pub fn number_at(line: &[u8], at: usize, w: usize) -> usize
+    requires { ⌜ (w ≤ 12) × (at + w ≤ length (now line)) ⌝ }
+    ensures { λ r. ⌜ r ≡ numberAt w at (now (line .entry)) ⌝ }
+{
+    let mut x = 0;
+    let mut i = 0;
+    while i < w {
+        x = x * 10 + digit(line[at + i]);
+        i += 1;
+    }
+    x
+}
+
 // The byte in the column with which the number q ends.
 fn shown(q: usize, last: bool) -> u8
     ensures { λ r. ⌜ r ≡ column last q ⌝ }
@@ -136,19 +150,25 @@ fn shown(q: usize, last: bool) -> u8
     b' '
 }
 
-// Writes the w columns of x from at on, the last column first.
+// Writes w columns that end with the last digit of q, after those before it. It calls itself, since the compiler makes a loop over twelve
+// columns into twelve divisions by as many constants.
+fn write_columns(buf: &mut [u8], at: usize, w: usize, q: usize, last: bool)
+    requires { ⌜ at + w ≤ length (now buf) ⌝ }
+    ensures { λ _. ⌜ now (buf .exit) ≡ sets (now (buf .entry)) at (columnsTo last w q) ⌝ }
+{
+    if w == 0 {
+        return;
+    }
+    write_columns(buf, at, w - 1, q / 10, false);
+    buf[at + (w - 1)] = shown(q, last);
+}
+
+// Writes the w columns of x from at on.
 pub fn write_field(buf: &mut [u8], at: usize, w: usize, x: usize)
     requires { ⌜ at + w ≤ length (now buf) ⌝ }
     ensures { λ _. ⌜ now (buf .exit) ≡ sets (now (buf .entry)) at (columns w x) ⌝ }
 {
-    let mut q = x;
-    let mut i = w;
-    while i > 0 {
-        let c = shown(q, i == w);
-        i -= 1;
-        buf[at + i] = c;
-        q = q / 10;
-    }
+    write_columns(buf, at, w, x, true);
 }
 
 // Copies src into buf from at on.

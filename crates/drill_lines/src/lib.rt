@@ -19,7 +19,7 @@ const LETTERS: [u8; 6] = [b'X', b'Q', b'U', b'W', b'E', b'O'];
 
 // ---- the parts of an answer
 
-fn kind(bits: u32) -> usize
+pub fn kind(bits: u32) -> usize
     ensures { λ r. ⌜ r ≡ kindOf bits ⌝ }
 {
     (bits / 16777216) as usize
@@ -31,7 +31,7 @@ fn refusal(bits: u32) -> usize
     (bits / 65536 % 256) as usize
 }
 
-fn place(bits: u32) -> usize
+pub fn place(bits: u32) -> usize
     ensures { λ r. ⌜ r ≡ placeOf bits ⌝ }
 {
     (bits % 65536) as usize

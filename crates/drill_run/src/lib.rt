@@ -6,26 +6,11 @@ use libc::STDOUT_FILENO;
 ghost use mathlib.Core.Path.{_≡_};
 ghost use Rattle.event_lines.specs.Line.{lineOf};
 ghost use Rattle.drill_run.specs.Drilled.{heardOf, heardLeaves, HeardAs, Played, DrilledFromStart};
-ghost use Rattle.io.specs.Counts.{Counts};
 
 // The answer of the call that a reply led to, or nothing: the input has ended, or what stands there is no reply.
 enum Heard {
     Answer(u32),
     Nothing,
-}
-
-// Reads plan.txt and gives its length. One byte more than the longest sheet is enough to refuse a longer file. A file that is missing
-// or cannot be read counts as empty.
-fn read_sheet(sheet: &mut [u8]) -> usize
-    ensures { λ r. ⌜ Counts r (now (sheet .exit)) ⌝ }
-{
-    let fd = os::open_read(b"plan.txt");
-    if fd < 0 {
-        return 0;
-    }
-    let n = io::read_full(fd, sheet);
-    libc::close(fd);
-    n
 }
 
 // Prints the line of an answer, if it has one.
@@ -105,8 +90,8 @@ fn drill(sheet: &[u8], state: &mut [u8])
 
 // The whole drill: the sheet from its file, the state as it comes.
 pub fn run() {
-    let mut sheet = [0u8; 9839];
+    let mut sheet = [0u8; files::SHEET_BYTES];
     let mut state = [0u8; 65];
-    let n = read_sheet(&mut sheet);
+    let n = files::read_file(b"plan.txt", &mut sheet);
     drill(&sheet[..n], &mut state);
 }

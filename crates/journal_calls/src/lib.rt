@@ -60,7 +60,7 @@ pub fn journal_line(letter: u8, booking: u32, line: &mut [u8]) -> u32
 // ---- restart
 
 // Takes the journal's whole lines one after the other, from the start, in 65 lent bytes. Gives the number of the first wrong line, or 0.
-fn replay(g: Network, journal: &[u8], state: &mut [u8]) -> usize
+pub fn replay(g: Network, journal: &[u8], state: &mut [u8]) -> usize
     requires { ⌜ (g .n ≤ 64) × (g .a ≤ 16) × (length (now state) ≡ 65) ⌝ }
     ensures told { λ n. ⌜ n ≡ replay g (now (journal .entry)) .wrong ⌝ }
     ensures left { λ _. ⌜ now (state .exit) ≡ bytesOf (replay g (now (journal .entry)) .run) ⌝ }
@@ -76,7 +76,7 @@ fn replay(g: Network, journal: &[u8], state: &mut [u8]) -> usize
 }
 
 // The place of refusal 12.
-fn line_place(number: usize) -> usize
+pub fn line_place(number: usize) -> usize
     ensures { λ r. ⌜ r ≡ linePlace number ⌝ }
 {
     if number <= 65535 { number } else { 65535 }

@@ -7,10 +7,8 @@ use mathlib.Core.List.{List}
 use Prim.Native.Nat.{ℕ, zero, suc, _+_, _-_, _/_, _≤_, _<_}
 use native.Mathlib.Nat.{sub-zero}
 use native.Mathlib.Omega.{arith}
-use lib.Dec.{leb}
 use lib.ListN.{length, take, drop}
 use lib.Seq.{drop-drop}
-use borrow.Author.Tests.{leb-true, leb-false}
 use Rattle.bounded.proofs.Bools.{which, by-cond}
 use Rattle.network.specs.declared.Network.{Network}
 use Rattle.run.specs.Bytes.{bytesOf}
@@ -22,40 +20,12 @@ use Rattle.guarantee.specs.Machine.{replyTo}
 use Rattle.event_lines.specs.Line.{isOrder, lineOf}
 use Rattle.event_lines.specs.declared.Line.{Line}
 use Rattle.event_lines.specs.declared.Line.the-variants.{Given, Misformed}
-use Rattle.journal.specs.Reading.{turnAt}
-use Rattle.journal.specs.declared.Entry.the-variants.{Whole, End}
-use Rattle.journal.specs.declared.Turn.{Turn}
 use Rattle.lent_state.specs.Due.{orderTaken, took, orderLine}
 use Rattle.lent_state.specs.Lines.{lineBy, lineFault, Lines, takenFrom, takenOf}
 use Rattle.lent_state.specs.declared.Stood.{Stood}
 use Rattle.lent_state.proofs.Bytes.{Out}
 use Rattle.lent_state.proofs.Due.{sent}
 use Rattle.lent_state.proofs.Limits.{order-few, numbered-few, order-size, numbered-size, took-off, took-taken, misfit-stays}
-
--- ---- the reader's turn
-
-module _ (j : List ℕ) (at : ℕ) (t : Turn) (e : t ≡ turnAt j at) where
-  -- no whole line is left
-  pub none-left : t .entry ≡ End → length j < at + 6
-  unfolding turnAt
-  none-left h = go (leb (at + 6) (length j)) refl (sym (ap (λ (u : Turn). u .entry) e) ∙ h)
-    where
-      go : (b : Bool) → leb (at + 6) (length j) ≡ b
-          → cond {A = Turn} b (record { entry = Whole (lineOf (take 6 (drop at j))); at = at + 6 }) (record { entry = End; at = at }) .entry ≡ End → length j < at + 6
-      go true q p = let z : _≡_ {A = ℕ} 0 1 = cc in absurd (omega arith)
-      go false q p = omega (arith, leb-false (at + 6) (length j) q)
-
-  -- a whole line was read
-  pub one-read : (line : Line) → t .entry ≡ Whole line → (at + 6 ≤ length j) × (t .at ≡ at + 6) × (line ≡ lineOf (take 6 (drop at j)))
-  unfolding turnAt
-  one-read line h = go (leb (at + 6) (length j)) refl (sym (ap (λ (u : Turn). u .entry) e) ∙ h) (ap (λ (u : Turn). u .at) e)
-    where
-      go : (b : Bool) → leb (at + 6) (length j) ≡ b
-          → cond {A = Turn} b (record { entry = Whole (lineOf (take 6 (drop at j))); at = at + 6 }) (record { entry = End; at = at }) .entry ≡ Whole line
-          → t .at ≡ cond {A = Turn} b (record { entry = Whole (lineOf (take 6 (drop at j))); at = at + 6 }) (record { entry = End; at = at }) .at
-          → (at + 6 ≤ length j) × (t .at ≡ at + 6) × (line ≡ lineOf (take 6 (drop at j)))
-      go true q p m = (leb-true (at + 6) (length j) q, m, cc)
-      go false q p m = let z : _≡_ {A = ℕ} 0 1 = cc in absurd (omega arith)
 
 -- ---- one line
 

@@ -66,7 +66,7 @@ pub fn ways_place(n: usize, m: usize) -> usize
 }
 
 // Whether a line has w bytes, begins with a letter and ends in a line feed.
-fn is_framed(line: &[u8], letter: u8, w: usize) -> bool
+pub fn is_framed(line: &[u8], letter: u8, w: usize) -> bool
     requires { ⌜ 1 ≤ w ⌝ }
     ensures { λ r. ⌜ r ≡ isFramed letter w (now (line .entry)) ⌝ }
 {

@@ -10,14 +10,14 @@ use lib.Seq.{take-add}
 use Rattle.bounded.proofs.Bools.{which}
 use Rattle.network.specs.declared.Network.{Network}
 use Rattle.run.specs.declared.Run.{Run}
-use Rattle.event_lines.specs.Line.{lineOf}
+use Rattle.event_lines.specs.Line.{lineOf, linesFrom}
 use Rattle.event_lines.specs.declared.Line.{Line}
 use Rattle.event_lines.specs.declared.Line.the-variants.{Given, Misformed}
 use Rattle.event_lines.proofs.LineLaws.{read-text}
 use Rattle.guarantee.specs.Machine.{Asked, replyTo}
 use Rattle.guarantee.proofs.Numbers.{taken-small}
 use Rattle.journal_calls.specs.Journal.{journalOf}
-use Rattle.block_calls.specs.Block.{linesFrom, keptOf}
+use Rattle.block_calls.specs.Block.{keptOf}
 use Rattle.whole_campaign.specs.Singly.{keptAs}
 use Rattle.stopped_campaign.proofs.OneLine.{reply-line}
 

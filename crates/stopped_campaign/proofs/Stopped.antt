@@ -122,11 +122,11 @@ module _ (s : List ℕ) (e : sheetPasses s ≡ true) where
   ways = passing s e .shape .few
 
   -- the stored journal is the plain machine's
-  journal-is : (cs : List Call) → journalOn s (bytesOf start) cs ≡ machineJournal (networkIn s) start (singlyOn s (bytesOf start) cs)
+  pub journal-is : (cs : List Call) → journalOn s (bytesOf start) cs ≡ machineJournal (networkIn s) start (singlyOn s (bytesOf start) cs)
   unfolding journalOn
   journal-is cs = let qs : List Asked = singlyOn s (bytesOf start) cs in ap (journalOf qs) (sym (from-start s e cs .same-answers) ∙ singles-bits s e qs)
 
-  journal-singles : (qs : List Asked) → journalOn s (bytesOf start) (singles qs) ≡ machineJournal (networkIn s) start qs
+  pub journal-singles : (qs : List Asked) → journalOn s (bytesOf start) (singles qs) ≡ machineJournal (networkIn s) start qs
   journal-singles qs = journal-is (singles qs) ∙ ap (machineJournal (networkIn s) start) (singles-calls s (bytesOf start) qs)
 
   -- ---- writable
@@ -155,7 +155,7 @@ module _ (s : List ℕ) (e : sheetPasses s ≡ true) where
     unfolding replay callsOf
     left-calls = leaves-is s journal lent a ∙ ap (λ (t : Replayed). bytesOf (t .run)) (replays .state) ∙ sym (singles-left s e (callsOf journal))
 
-    exact-start : Exact s (bytesOf start) journal
+    pub exact-start : Exact s (bytesOf start) journal
     unfolding wholeLines callsOf
     exact-start = replays .lines ∙ sym (journal-singles (callsOf journal))
 
@@ -180,7 +180,7 @@ module _ (s : List ℕ) (e : sheetPasses s ≡ true) where
     unfolding J replay
     stop-left = leaves-is s J lent stop-right ∙ ap (λ (t : Replayed). bytesOf (t .run)) (stop .replays) ∙ sym (singles-left s e (stop .before))
 
-    faithful-start : Faithful s (bytesOf start) lent cs c
+    pub faithful-start : Faithful s (bytesOf start) lent cs c
     unfolding J qs
     faithful-start =
         let j = journal-is cs in

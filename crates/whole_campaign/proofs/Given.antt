@@ -16,7 +16,7 @@ use Rattle.run.specs.Bytes.{bytesOf, runOf, soundBytes}
 use Rattle.run.specs.declared.Run.{Run}
 use Rattle.run.proofs.Facts.{Sound}
 use Rattle.run.proofs.SoundTest.{sound-e}
-use Rattle.event_lines.specs.Line.{lineOf}
+use Rattle.event_lines.specs.Line.{lineOf, linesFrom}
 use Rattle.event_lines.specs.declared.Line.{Line}
 use Rattle.event_lines.specs.declared.Line.the-variants.{Given, Misformed}
 use Rattle.guarantee.specs.Answers.{place9, replyBits}
@@ -25,7 +25,7 @@ use Rattle.guarantee.specs.Counted.{accepts}
 use Rattle.guarantee.proofs.Moved.{kind-pack}
 use Rattle.guarantee.proofs.Numbers.{small-9}
 use Rattle.calls.specs.Calls.{networkIn, sheetPasses, inOrder, askedCall}
-use Rattle.block_calls.specs.Block.{linesFrom, linesOf, keptOf, blockOf}
+use Rattle.block_calls.specs.Block.{linesOf, keptOf, blockOf}
 use Rattle.lent_state.proofs.Bytes.{bytes-run, codes-size}
 use Rattle.whole_campaign.specs.Calls.{single, block, singles, gives, leaves, givesBy, leavesBy}
 use Rattle.whole_campaign.specs.Lists.{answersOn, leftOn}

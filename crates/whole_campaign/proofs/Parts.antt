@@ -14,7 +14,7 @@ use Rattle.network.specs.declared.Network.{Network}
 use Rattle.verdict.proofs.Facts.{Passes}
 use Rattle.run.specs.declared.Run.{Run}
 use Rattle.run.proofs.Facts.{Sound}
-use Rattle.event_lines.specs.Line.{lineOf, isOrder}
+use Rattle.event_lines.specs.Line.{lineOf, isOrder, linesFrom}
 use Rattle.event_lines.specs.declared.Line.{Line}
 use Rattle.event_lines.specs.declared.Line.the-variants.{Given, Misformed}
 use Rattle.guarantee.specs.Answers.{pack, replyBits}
@@ -23,7 +23,7 @@ use Rattle.guarantee.specs.Counted.{accepts}
 use Rattle.guarantee.proofs.Moved.{kind-pack, place-pack}
 use Rattle.guarantee.proofs.Whole.{travel}
 use Rattle.journal_calls.specs.Journal.{callOn, callsFrom}
-use Rattle.block_calls.specs.Block.{linesFrom, linesOf, keptOf, Block, blockOf, bitsOf, blockBits}
+use Rattle.block_calls.specs.Block.{linesOf, keptOf, Block, blockOf, bitsOf, blockBits}
 use Rattle.block_calls.proofs.Taking.{replyOn, order-misfits}
 use Rattle.block_calls.proofs.Few.{kept-few, fault-few}
 use Rattle.whole_campaign.specs.Calls.{Call, single, block, singles, givesBy, leavesBy}

@@ -1,4 +1,4 @@
-//! The seven calls on bytes, each answered with 32 bits:
+//! The eight calls on bytes, each answered with 32 bits:
 //! kind × 16,777,216 + refusal × 65,536 + place.
 
 use crate::block::{self, Bad, Taken};
@@ -6,6 +6,7 @@ use crate::check::{self, Network};
 use crate::journal::{self, LETTERS, LINE_LENGTH};
 use crate::plan::{self, Refusal};
 use crate::run::{self, Order, State};
+use crate::settle::{self, MOST_LINES};
 
 pub const REFUSED: u32 = 0;
 pub const REQUEST: u32 = 1;
@@ -60,6 +61,14 @@ fn short_buffer() -> Refusal {
 
 fn wrong_line(line: usize) -> Refusal {
     Refusal { number: 12, place: line.min(HIGHEST_LINE) as u32 }
+}
+
+fn wrong_fee_line(line: usize) -> Refusal {
+    Refusal { number: 13, place: line as u32 }
+}
+
+fn too_many_lines() -> Refusal {
+    Refusal { number: 14, place: 0 }
 }
 
 fn block_answer(taken: &Taken) -> u32 {
@@ -172,6 +181,31 @@ pub fn restart_judged(judged: &Judged, journal: &[u8], bytes: &mut [u8]) -> u32 
     write_back(step(), bytes)
 }
 
+/// The report, if a buffer of this length has room for it.
+fn report_of(judged: &Judged, fees: &[u8], journal: &[u8], length: usize) -> Result<String, Refusal> {
+    let network = judged.as_ref().map_err(|r| *r)?;
+    if journal.len() / LINE_LENGTH > MOST_LINES {
+        return Err(too_many_lines());
+    }
+    journal::replay(network, journal).map_err(wrong_line)?;
+    let fees = settle::read_fees(fees, network.plan.count()).map_err(wrong_fee_line)?;
+    let text = settle::report(&fees, journal);
+    if text.len() > length {
+        return Err(short_buffer());
+    }
+    Ok(text)
+}
+
+pub fn settle_judged(judged: &Judged, fees: &[u8], journal: &[u8], report: &mut [u8]) -> u32 {
+    match report_of(judged, fees, journal, report.len()) {
+        Ok(text) => {
+            report[..text.len()].copy_from_slice(text.as_bytes());
+            pack(ACCEPTED, 0, text.len() as u32)
+        }
+        Err(refusal) => refused(refusal),
+    }
+}
+
 // The calls as the dispatcher makes them.
 
 pub fn check(sheet: &[u8]) -> u32 {
@@ -196,6 +230,10 @@ pub fn reply_block(sheet: &[u8], block: &[u8], state: &mut [u8]) -> u32 {
 
 pub fn restart(sheet: &[u8], journal: &[u8], state: &mut [u8]) -> u32 {
     restart_judged(&judge(sheet), journal, state)
+}
+
+pub fn settle(sheet: &[u8], fees: &[u8], journal: &[u8], report: &mut [u8]) -> u32 {
+    settle_judged(&judge(sheet), fees, journal, report)
 }
 
 pub fn journal_line(letter: u8, booking: u32, line: &mut [u8]) -> u32 {

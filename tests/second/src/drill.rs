@@ -19,7 +19,7 @@ fn refusal_line(number: u32, place: usize) -> String {
     format!("X{number:4}{place:6}\n")
 }
 
-fn refused_line(answer: u32) -> String {
+pub fn refused_line(answer: u32) -> String {
     refusal_line(refusal_of(answer), place_of(answer) as usize)
 }
 

@@ -3,6 +3,7 @@
 //!
 //! Bookings and ways are numbered from 1 everywhere, as on the sheet.
 
+pub mod bill;
 pub mod block;
 pub mod calls;
 pub mod check;
@@ -15,5 +16,7 @@ pub mod journal;
 pub mod old;
 pub mod plan;
 pub mod run;
+pub mod settle;
 pub mod written_blocks;
 pub mod written_desks;
+pub mod written_settlements;

@@ -427,6 +427,16 @@ impl Campaign for Faulty {
         }
         pack(6, 0, 6)
     }
+
+    fn settle(
+        &self,
+        sheet: &[u8],
+        fees: Option<&[u8]>,
+        journal: Option<&[u8]>,
+        report: Option<&mut [u8]>,
+    ) -> u32 {
+        calls::settle(sheet, fees.unwrap_or(b""), journal.unwrap_or(b""), report.unwrap_or(&mut []))
+    }
 }
 
 /// Compares until something differs: a fixed part first, then a few hundred

@@ -16,9 +16,10 @@ use Rattle.run.specs.declared.Replied.{Replied}
 use Rattle.event_lines.specs.Line.{lineOf}
 use Rattle.event_lines.specs.declared.Line.{Line}
 use Rattle.event_lines.specs.declared.Line.the-variants.{Given, Misformed}
+use Rattle.journal.proofs.TurnLaws.{none-left, one-read}
 use Rattle.lent_state.specs.Lines.{lineBy, lineFault, takenOf}
 use Rattle.lent_state.proofs.Bytes.{bytes-run, codes-size, bytes-size, out-taken, out-run, out-stands}
-use Rattle.lent_state.proofs.Lines.{none-left, one-read, rest, all-left, taken-end, taken-bad, taken-on, misformed-off, line-stays, line-few, line-size, told}
+use Rattle.lent_state.proofs.Lines.{rest, all-left, taken-end, taken-bad, taken-on, misformed-off, line-stays, line-few, line-size, told}
 use Rattle.lent_state.proofs.take_lines.Statement.{statement}
 use Rattle.lent_state.proofs.take_lines.Tie as tie
 

@@ -47,10 +47,27 @@ mod library {
             state: *mut u8,
             state_len: usize,
         ) -> u32;
+        #[cfg(feature = "run")]
+        pub fn campaign_settle(
+            sheet: *const u8,
+            sheet_len: usize,
+            fees: *const u8,
+            fees_len: usize,
+            journal: *const u8,
+            journal_len: usize,
+            report: *mut u8,
+            report_len: usize,
+        ) -> u32;
     }
 }
 
 struct Real;
+
+/// Bytes as a call is lent them.
+#[cfg(feature = "run")]
+fn lent(bytes: Option<&[u8]>) -> (*const u8, usize) {
+    bytes.map_or((std::ptr::null(), 0), |bytes| (bytes.as_ptr(), bytes.len()))
+}
 
 // Safety of each call: the pointers and lengths are those of live slices, or null and 0.
 #[cfg(feature = "run")]
@@ -74,8 +91,7 @@ impl Campaign for Real {
 
     fn reply_block(&self, sheet: &[u8], block: Option<&[u8]>, state: &mut [u8]) -> u32 {
         let (start, length) = (state.as_mut_ptr(), state.len());
-        let (lines, lines_length) =
-            block.map_or((std::ptr::null(), 0), |block| (block.as_ptr(), block.len()));
+        let (lines, lines_length) = lent(block);
         unsafe {
             library::campaign_reply_block(sheet.as_ptr(), sheet.len(), lines, lines_length, start, length)
         }
@@ -89,6 +105,31 @@ impl Campaign for Real {
 
     fn journal_line(&self, letter: u8, booking: u32, line: &mut [u8]) -> u32 {
         unsafe { library::campaign_journal_line(letter, booking, line.as_mut_ptr(), line.len()) }
+    }
+
+    fn settle(
+        &self,
+        sheet: &[u8],
+        fees: Option<&[u8]>,
+        journal: Option<&[u8]>,
+        report: Option<&mut [u8]>,
+    ) -> u32 {
+        let ((fees, fees_length), (lines, lines_length)) = (lent(fees), lent(journal));
+        let (start, length) =
+            report.map_or((std::ptr::null_mut(), 0), |report| (report.as_mut_ptr(), report.len()));
+        let (sheet, sheet_length) = (sheet.as_ptr(), sheet.len());
+        unsafe {
+            library::campaign_settle(
+                sheet,
+                sheet_length,
+                fees,
+                fees_length,
+                lines,
+                lines_length,
+                start,
+                length,
+            )
+        }
     }
 }
 
@@ -122,6 +163,10 @@ impl Campaign for Real {
     fn journal_line(&self, _: u8, _: u32, _: &mut [u8]) -> u32 {
         unreachable!()
     }
+
+    fn settle(&self, _: &[u8], _: Option<&[u8]>, _: Option<&[u8]>, _: Option<&mut [u8]>) -> u32 {
+        unreachable!()
+    }
 }
 
 struct Options {
@@ -137,6 +182,9 @@ const FEWEST_JOURNALS: u64 = 120_000;
 
 /// So many blocks are compared line by line before the rounds.
 const FEWEST_BLOCKS: u64 = 120_000;
+
+/// So many reports of settlements are compared before the rounds.
+const FEWEST_SETTLED: u64 = 30_000;
 
 /// So many orders are passed over in campaigns with desks before the rounds.
 const FEWEST_PASSED_OVER: u64 = 60_000;
@@ -167,8 +215,8 @@ fn options() -> Option<Options> {
     Some(options)
 }
 
-/// What was answered before desks, the fixed part, the desks, the journals, the blocks, then rounds until their
-/// number or the time is used up.
+/// What was answered before desks, the fixed part, the desks, the journals, the blocks, the settlements, then
+/// rounds until their number or the time is used up.
 fn compare(comparison: &mut Comparison, options: &Options) -> Outcome<u64> {
     let began = Instant::now();
     comparison.old_cases()?;
@@ -185,6 +233,9 @@ fn compare(comparison: &mut Comparison, options: &Options) -> Outcome<u64> {
         comparison.every_small_block()?;
         comparison.enough_blocks()?;
         println!("with the blocks: {:.1} s", began.elapsed().as_secs_f64());
+        comparison.settlements(options.seed, FEWEST_SETTLED)?;
+        comparison.enough_settlements()?;
+        println!("with the settlements: {:.1} s", began.elapsed().as_secs_f64());
     }
     let time = options.seconds.map(Duration::from_secs);
     let mut made = 0;

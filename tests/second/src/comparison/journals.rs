@@ -76,6 +76,15 @@ fn refused_again(lines: usize) -> Vec<u8> {
     b"Q   1\nN   1\n".iter().copied().cycle().take(lines * LINE_LENGTH).collect()
 }
 
+/// A journal that no campaign wrote.
+pub fn random_journal(dice: &mut Dice, network: &Network) -> Vec<u8> {
+    match dice.below(3) {
+        0 => random_bytes(dice),
+        1 => random_lines(dice, network.plan.count()),
+        _ => likely_lines(dice, network),
+    }
+}
+
 pub fn case_of(plan: &Plan) -> Case {
     Case::new(plan::write(plan).as_bytes())
 }

@@ -72,6 +72,11 @@ impl Ledger {
         }
     }
 
+    /// How often a booking was confirmed, and returned.
+    pub fn counts(&self, booking: usize) -> (usize, usize) {
+        (get(&self.confirmed, booking), get(&self.returned, booking))
+    }
+
     fn is_outstanding(&self) -> bool {
         self.ordered.iter().any(|(&booking, &count)| count > get(&self.replied, booking))
     }

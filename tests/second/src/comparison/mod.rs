@@ -1,10 +1,11 @@
-//! The comparison of a first version of the seven calls with this one: the
+//! The comparison of a first version of the eight calls with this one: the
 //! same 32 bits, the same bytes of state, and no other byte changed.
 
 pub mod blocks;
 mod damage;
 pub mod desks;
 mod every;
+mod fees;
 pub mod journals;
 mod ledger;
 mod lent;
@@ -12,6 +13,7 @@ mod lines;
 mod old;
 mod record;
 mod replies;
+pub mod settlements;
 pub mod sheets;
 mod tally;
 pub mod walks;
@@ -35,6 +37,14 @@ pub trait Campaign {
     fn reply_block(&self, sheet: &[u8], block: Option<&[u8]>, state: &mut [u8]) -> u32;
     fn restart(&self, sheet: &[u8], journal: &[u8], state: &mut [u8]) -> u32;
     fn journal_line(&self, letter: u8, booking: u32, line: &mut [u8]) -> u32;
+    /// What is not there is lent as null and 0.
+    fn settle(
+        &self,
+        sheet: &[u8],
+        fees: Option<&[u8]>,
+        journal: Option<&[u8]>,
+        report: Option<&mut [u8]>,
+    ) -> u32;
 }
 
 /// The second version in the place of the first: it must not differ from itself.
@@ -67,6 +77,16 @@ impl Campaign for Second {
 
     fn journal_line(&self, letter: u8, booking: u32, line: &mut [u8]) -> u32 {
         calls::journal_line(letter, booking, line)
+    }
+
+    fn settle(
+        &self,
+        sheet: &[u8],
+        fees: Option<&[u8]>,
+        journal: Option<&[u8]>,
+        report: Option<&mut [u8]>,
+    ) -> u32 {
+        calls::settle(sheet, fees.unwrap_or(b""), journal.unwrap_or(b""), report.unwrap_or(&mut []))
     }
 }
 
@@ -250,7 +270,7 @@ impl<'a> Comparison<'a> {
         self.call(case, &mut state, Call::NextOrder)?;
         self.any_block(case, &state, dice)?;
         self.call(case, &mut state, Call::Reply(b'Y', 1))?;
-        Ok(())
+        self.plain_settlement(case)
     }
 
     /// One random plan with its campaigns and some damaged copies.
@@ -266,6 +286,7 @@ impl<'a> Comparison<'a> {
         let case = Case::new(&sheet);
         self.tally.note_sheet(case.network());
         self.compare_sheet(&case, &mut dice)?;
+        let mut recorded = None;
         if case.network().is_some() && !self.check_only {
             let record = self.campaign(&case, &mut dice)?;
             self.some_journals(&case, &record, &mut dice)?;
@@ -274,12 +295,16 @@ impl<'a> Comparison<'a> {
             for _ in 0..2 {
                 self.campaign(&case, &mut dice)?;
             }
+            recorded = Some(record);
         }
         for _ in 0..4 {
             let spoiled = Case::new(&generate::spoil_sheet(&mut dice, &sheet));
             self.compare_sheet(&spoiled, &mut dice)?;
         }
-        Ok(())
+        match recorded {
+            Some(record) => self.some_settlements(&case, &record, &mut dice),
+            None => Ok(()),
+        }
     }
 }
 

@@ -1,0 +1,2 @@
+-- The definitions of crate `settle_calls`.
+pub mod Settle

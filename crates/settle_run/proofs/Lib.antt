@@ -1,0 +1,2 @@
+-- The laws of crate `settle_run`.
+pub mod SettledLaws

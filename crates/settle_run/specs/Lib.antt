@@ -1,0 +1,2 @@
+-- The definitions of crate `settle_run`.
+pub mod Settled

@@ -1,0 +1,44 @@
+// Accounts' program: the plan sheet from plan.txt, the fee sheet from fees.txt and the journal from journal.txt; the report is printed, or the
+// refusal as the drill prints it.
+use libc::STDOUT_FILENO;
+ghost use mathlib.Core.Path.{_≡_};
+ghost use Prim.Native.Nat.{_≤_};
+ghost use lib.ListN.{length};
+ghost use lib.Seq.{sets};
+ghost use Rattle.settle_run.specs.Settled.{longestReport, settledText};
+
+// One byte more than the longest fee sheet, and one line more than the longest journal that is settled: enough to refuse longer files.
+const FEES_BYTES: usize = 1153;
+
+const JOURNAL_BYTES: usize = 60006;
+
+// Writes what is printed at the front, and gives its length.
+fn write_settled(sheet: &[u8], fees: &[u8], journal: &[u8], text: &mut [u8]) -> usize
+    requires { ⌜ longestReport ≤ length (now text) ⌝ }
+    ensures size { λ r. ⌜ r ≡ length (settledText (now (sheet .entry)) (now (fees .entry)) (now (journal .entry))) ⌝ }
+    ensures text { λ _. ⌜ now (text .exit) ≡ sets (now (text .entry)) 0 (settledText (now (sheet .entry)) (now (fees .entry)) (now (journal .entry))) ⌝ }
+{
+    let bits = campaign::campaign_settle(sheet, fees, journal, text);
+    if drill_lines::kind(bits) == 0 {
+        return drill_lines::write_answer(text, bits);
+    }
+    drill_lines::place(bits)
+}
+
+// Prints the report of three texts, or why there is none.
+fn print_settled(sheet: &[u8], fees: &[u8], journal: &[u8]) {
+    let mut text = [0u8; 1934];
+    let n = write_settled(sheet, fees, journal, &mut text);
+    io::write_all(STDOUT_FILENO, &text[..n]);
+}
+
+// Reads the three files and prints.
+pub fn run() {
+    let mut sheet = [0u8; files::SHEET_BYTES];
+    let mut fees = [0u8; FEES_BYTES];
+    let mut journal = [0u8; JOURNAL_BYTES];
+    let s = files::read_file(b"plan.txt", &mut sheet);
+    let f = files::read_file(b"fees.txt", &mut fees);
+    let j = files::read_file(b"journal.txt", &mut journal);
+    print_settled(&sheet[..s], &fees[..f], &journal[..j]);
+}

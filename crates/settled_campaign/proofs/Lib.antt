@@ -1,0 +1,3 @@
+-- The laws of crate `settled_campaign`.
+pub mod Lines
+pub mod Bill

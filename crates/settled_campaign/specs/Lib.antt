@@ -1,0 +1,2 @@
+-- The definitions of crate `settled_campaign`.
+pub mod Bill
