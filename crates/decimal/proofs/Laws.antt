@@ -19,7 +19,7 @@ use Rattle.bounded.specs.Bounded.{first}
 use Rattle.decimal.specs.Decimal.{begun, column, columnsTo, columns, valueOf, sameBytes, fieldOf}
 use Rattle.decimal.specs.declared.Field.the-variants.{Number, Fault}
 use Rattle.decimal.proofs.Bytes.{same-refl, same-eq, same-ne}
-use Rattle.decimal.proofs.Stores.{sets-append}
+use Rattle.decimal.proofs.Stores.{sets-last}
 
 -- ---- one column
 
@@ -71,7 +71,7 @@ digit-read last b x t d h =
 
 -- ---- the columns of a number
 
-to-length : (last : Bool) (w x : ℕ) → length (columnsTo last w x) ≡ w
+pub to-length : (last : Bool) (w x : ℕ) → length (columnsTo last w x) ≡ w
 unfolding columnsTo
 to-length last zero x = refl
 to-length last (suc w) x = length-append (columnsTo false w (x / 10)) (column last x ∷ []) ∙ omega (arith, to-length false w (x / 10))
@@ -300,16 +300,23 @@ value-bound (suc w) s = rw pow-suc (omega (arith, value-bound w s))
 pub room : (w : ℕ) (s : List ℕ) (x : ℕ) → w ≤ 12 → x ≡ valueOf w s → x < 2 * 10 ^ 12
 room w s x h e = omega (arith, value-bound w s, pow-le-pow-right {n = 10} (omega arith) {i = w} {j = 12} h)
 
--- ---- writing column by column, the last one last
+-- ---- writing column by column, the last first
 
-pub columns-none : (last : Bool) (at w q : ℕ) (d : List ℕ) → w ≡ 0 → d ≡ sets d at (columnsTo last w q)
+pub column-written : (w at i q c : ℕ) (buf whole : List ℕ) → i ≤ w → 0 < i → c ≡ column (eqb i w) q → sets buf at (columnsTo (eqb i w) i q) ≡ whole
+    → sets (set buf (at + (i - 1)) c) at (columnsTo (eqb (i - 1) w) (i - 1) (q / 10)) ≡ whole
 unfolding columnsTo
-columns-none last at w q d h = rw h refl
+column-written w at zero q c buf whole h p r e = absurd (omega arith)
+column-written w at (suc i) q c buf whole h p r e =
+    let m : suc i - 1 ≡ i = omega arith in
+    let o : eqb i w ≡ false = ne-eqb i w (λ z. omega arith) in
+    let l : at + length (columnsTo false i (q / 10)) ≡ at + i = omega (arith, to-length false i (q / 10)) in
+    rw (m, o, r, ← l) (sym (sets-last buf at (columnsTo false i (q / 10)) (column (eqb (suc i) w) q)) ∙ e)
 
-pub columns-more : (last : Bool) (at w q c : ℕ) (d b : List ℕ) → (w ≡ 0 → ⊥) → b ≡ sets d at (columnsTo false (w - 1) (q / 10)) → c ≡ column last q
-    → set b (at + (w - 1)) c ≡ sets d at (columnsTo last w q)
+pub all-written : (w at i q : ℕ) (buf whole : List ℕ) → i ≤ 0 → sets buf at (columnsTo (eqb i w) i q) ≡ whole → buf ≡ whole
 unfolding columnsTo
-columns-more last at w q c d b h e f =
-    let n : w ≡ suc (w - 1) = omega arith in
-    let t : columnsTo last w q ≡ columnsTo false (w - 1) (q / 10) ++ (column last q ∷ []) = ap (λ (k : ℕ). columnsTo last k q) n in
-    rw (t, sets-append d at (columnsTo false (w - 1) (q / 10)) (column last q ∷ []), to-length false (w - 1) (q / 10), ← e, ← f)
+all-written w at zero q buf whole h e = e
+all-written w at (suc i) q buf whole h e = absurd (omega arith)
+
+pub from-last : (w : ℕ) (at x : ℕ) (buf : List ℕ) → sets buf at (columnsTo (eqb w w) w x) ≡ sets buf at (columns w x)
+unfolding columns
+from-last w at x buf = rw (eq-eqb w w refl)

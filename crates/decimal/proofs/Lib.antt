@@ -3,3 +3,4 @@ pub mod Bytes
 pub mod Laws
 pub mod Stores
 pub mod Fields
+pub mod Numbers

@@ -2,8 +2,8 @@
 // text, and the copying of bytes, that readers and writers of lines need.
 ghost use mathlib.Core.Path.{_≡_};
 ghost use mathlib.Core.List.{[], _∷_};
-ghost use mathlib.Core.Bool.{_&&_};
-ghost use Prim.Native.Nat.{_+_, _-_, _%_, _≤_, _<_};
+ghost use mathlib.Core.Bool.{false, _&&_};
+ghost use Prim.Native.Nat.{_+_, _-_, _%_, _^_, _≤_, _<_};
 ghost use lib.Dec.{eqb, leb, ltb};
 ghost use lib.ListN.{length, getD, take, drop};
 ghost use lib.Seq.{sets};
@@ -150,25 +150,48 @@ fn shown(q: usize, last: bool) -> u8
     b' '
 }
 
-// Writes w columns that end with the last digit of q, after those before it. It calls itself, since the compiler makes a loop over twelve
-// columns into twelve divisions by as many constants.
-fn write_columns(buf: &mut [u8], at: usize, w: usize, q: usize, last: bool)
-    requires { ⌜ at + w ≤ length (now buf) ⌝ }
-    ensures { λ _. ⌜ now (buf .exit) ≡ sets (now (buf .entry)) at (columnsTo last w q) ⌝ }
-{
-    if w == 0 {
-        return;
-    }
-    write_columns(buf, at, w - 1, q / 10, false);
-    buf[at + (w - 1)] = shown(q, last);
-}
-
-// Writes the w columns of x from at on.
+// Writes the w columns of x from at on, the last column first.
 pub fn write_field(buf: &mut [u8], at: usize, w: usize, x: usize)
     requires { ⌜ at + w ≤ length (now buf) ⌝ }
     ensures { λ _. ⌜ now (buf .exit) ≡ sets (now (buf .entry)) at (columns w x) ⌝ }
 {
-    write_columns(buf, at, w, x, true);
+    let mut q = x;
+    let mut i = w;
+    while i > 0 {
+        let c = shown(q, i == w);
+        i -= 1;
+        buf[at + i] = c;
+        q = q / 10;
+    }
+}
+
+// Writes w spaces from at on.
+fn write_spaces(buf: &mut [u8], at: usize, w: usize)
+    requires { ⌜ at + w ≤ length (now buf) ⌝ }
+    ensures { λ _. ⌜ now (buf .exit) ≡ sets (now (buf .entry)) at (columnsTo false w 0) ⌝ }
+{
+    let mut j = 0;
+    while j < w {
+        buf[at + j] = b' ';
+        j += 1;
+    }
+}
+
+// Writes the w columns of a number that fits them: spaces, and over them its digits, the last one first. Its turns depend on the number alone:
+// the loop of `write_field` over twelve columns becomes twelve divisions, by as many constants.
+pub fn write_number(buf: &mut [u8], at: usize, w: usize, x: usize)
+    requires { ⌜ (x < 10 ^ w) × (1 ≤ w) × (at + w ≤ length (now buf)) ⌝ }
+    ensures { λ _. ⌜ now (buf .exit) ≡ sets (now (buf .entry)) at (columns w x) ⌝ }
+{
+    write_spaces(buf, at, w);
+    let mut i = w - 1;
+    buf[at + i] = 48 + (x % 10) as u8;
+    let mut q = x / 10;
+    while q > 0 {
+        i -= 1;
+        buf[at + i] = 48 + (q % 10) as u8;
+        q = q / 10;
+    }
 }
 
 // Copies src into buf from at on.

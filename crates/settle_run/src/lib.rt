@@ -1,5 +1,6 @@
 // Accounts' program: the plan sheet from plan.txt, the fee sheet from fees.txt and the journal from journal.txt; the report is printed, or the
 // refusal as the drill prints it.
+use libc::STDERR_FILENO;
 use libc::STDOUT_FILENO;
 ghost use mathlib.Core.Path.{_≡_};
 ghost use Prim.Native.Nat.{_≤_};
@@ -25,11 +26,13 @@ fn write_settled(sheet: &[u8], fees: &[u8], journal: &[u8], text: &mut [u8]) -> 
     drill_lines::place(bits)
 }
 
-// Prints the report of three texts, or why there is none.
+// Prints the report of three texts, or why there is none. A program has no exit status, so a bill that is lost is told on standard error.
 fn print_settled(sheet: &[u8], fees: &[u8], journal: &[u8]) {
     let mut text = [0u8; 1934];
     let n = write_settled(sheet, fees, journal, &mut text);
-    io::write_all(STDOUT_FILENO, &text[..n]);
+    if !io::write_all(STDOUT_FILENO, &text[..n]) {
+        io::write_all(STDERR_FILENO, b"settle: the bill could not be written\n");
+    }
 }
 
 // Reads the three files and prints.

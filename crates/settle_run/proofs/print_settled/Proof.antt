@@ -21,4 +21,7 @@ print-settled-spec =
     array-share-prefix-text
     slice-aggregate-write-all
     (search needs)
+    (search needs)
+    (search needs)
+    (search needs)
     (search needs))
