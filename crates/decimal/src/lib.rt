@@ -186,11 +186,11 @@ pub fn write_number(buf: &mut [u8], at: usize, w: usize, x: usize)
     write_spaces(buf, at, w);
     let mut i = w - 1;
     buf[at + i] = 48 + (x % 10) as u8;
-    let mut q = x / 10;
-    while q > 0 {
+    let mut rest = x / 10;
+    while rest > 0 {
         i -= 1;
-        buf[at + i] = 48 + (q % 10) as u8;
-        q = q / 10;
+        buf[at + i] = 48 + (rest % 10) as u8;
+        rest = rest / 10;
     }
 }
 

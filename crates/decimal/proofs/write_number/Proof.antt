@@ -11,10 +11,10 @@ use Rattle.decimal.proofs.write_number.Statement.{statement}
 use Rattle.decimal.proofs.write_number.Tie as tie
 
 abbrev Inv-loop : tie.InvT-loop
-Inv-loop buf₀ at w x i₀ q₀ buf i q = Shown w x at buf₀ i q buf
+Inv-loop buf₀ at w x i₀ rest₀ buf i rest = Shown w x at buf₀ i rest buf
 
 abbrev μ-loop : tie.MeasureT-loop
-μ-loop buf₀ at w x i₀ q₀ buf i q = q
+μ-loop buf₀ at w x i₀ rest₀ buf i rest = rest
 
 -- the last digit, over the spaces
 module _ (c : tie.After-write-spaces Inv-loop μ-loop) where
@@ -61,7 +61,7 @@ slice-write-buf-2 c =
     omega (arith, long (c .before), l .inv .few, shown-left _ _ _ _ _ _ _ (l .inv) (c .loop-test .taken), given (spaces (c .before)) .pre .2)
 
 loop-again : tie.Need-loop-again Inv-loop μ-loop
-loop-again c = let l = c .before .loop in digit-shown _ _ _ _ (l .i) (l .q) _ (l .inv) (c .loop-test .taken) _ refl
+loop-again c = let l = c .before .loop in digit-shown _ _ _ _ (l .i) (l .rest) _ (l .inv) (c .loop-test .taken) _ refl
 
 same-length : tie.Need-same-length Inv-loop μ-loop
 same-length c = long (c .before)
