@@ -9,9 +9,9 @@ ghost use lib.Seq.{sets};
 ghost use Rattle.settle_run.specs.Settled.{longestReport, settledText};
 
 // One byte more than the longest fee sheet, and one line more than the longest journal that is settled: enough to refuse longer files.
-const FEES_BYTES: usize = 1153;
+const FEES_BYTES: usize = 64 * fees::FEE_BYTES + 1;
 
-const JOURNAL_BYTES: usize = 60006;
+const JOURNAL_BYTES: usize = 6 * (charges::MOST_LINES + 1);
 
 // Writes what is printed at the front, and gives its length.
 fn write_settled(sheet: &[u8], fees: &[u8], journal: &[u8], text: &mut [u8]) -> usize

@@ -19,10 +19,10 @@ use Rattle.guarantee.specs.Machine.{Asked, machineAnswers}
 use Rattle.guarantee.specs.Counted.{confirmed, returned, tally}
 use Rattle.calls.specs.Calls.{networkIn, sheetPasses, startLeaves}
 use Rattle.journal_calls.specs.Journal.{callsOf}
-use Rattle.charges.specs.Charges.{naming, confirmations, returns}
+use Rattle.charges.specs.Charges.{mostLines, naming, confirmations, returns}
 use Rattle.report.specs.Report.{confirmedIn, returnedIn}
 use Rattle.report.proofs.Counted.{amount-counts}
-use Rattle.settle_calls.specs.Settle.{mostLines, wrongEntry, settles}
+use Rattle.settle_calls.specs.Settle.{wrongEntry, settles}
 use Rattle.settle_calls.proofs.Accepted.{settled-e}
 use Rattle.whole_campaign.specs.Calls.{Call, singles}
 use Rattle.whole_campaign.specs.Singly.{singlyOn, toldOn}

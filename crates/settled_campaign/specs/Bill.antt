@@ -10,8 +10,9 @@ use Rattle.guarantee.specs.Machine.{Asked}
 use Rattle.guarantee.specs.Counted.{confirmed, returned, tally}
 use Rattle.journal_calls.specs.Journal.{callsOf}
 use Rattle.fees.specs.FeeSheet.{confirmationFee, returnFee}
+use Rattle.charges.specs.Charges.{mostLines}
 use Rattle.report.specs.Report.{confirmedIn, returnedIn, amountIn}
-use Rattle.settle_calls.specs.Settle.{mostLines, wrongCharge, settles}
+use Rattle.settle_calls.specs.Settle.{wrongCharge, settles}
 use Rattle.whole_campaign.specs.Calls.{Call, singles}
 use Rattle.whole_campaign.specs.Lists.{answersOn}
 use Rattle.whole_campaign.specs.Singly.{singlyOn, toldOn}
