@@ -2,20 +2,34 @@
 -- Assumes nothing.
 use Prim.Native.Nat.{ℕ, suc, _+_, _*_, _%_, _^_, _≤_, _<_}
 use mathlib.Core.Path.{_≡_, sym, ap, _∙_}
-use mathlib.Core.List.{List, _++_}
+use mathlib.Core.Logic.{inl, inr}
+use mathlib.Core.List.{List, [], _∷_, _++_}
 use native.Mathlib.Omega.{arith}
+use types.Run.{OneOf}
+use denote.Enum.Declared.{tagOf}
 use lib.ListN.{getD, take, drop, take-append-drop}
 use lib.Seq.{drop-drop, take-at, getD-take, getD-drop}
 use Rattle.decimal.specs.Decimal.{columns, valueOf, fieldAt, numberAt}
 use Rattle.decimal.specs.declared.Field.{Field}
-use Rattle.decimal.specs.declared.Field.the-variants.{Number, Fault}
-use Rattle.decimal.proofs.Laws.{Reads, read-written, value-written, columns-no-fault, columns-length, written-read}
+use Rattle.decimal.specs.declared.Field.the-variants.{Number, Blank, Fault}
+use Rattle.decimal.proofs.Field.{the-type}
+use Rattle.decimal.proofs.Laws.{Reads, read-written, value-written, columns-number, columns-length, written-read}
+
+-- what the else of a reader's `let Field::Number(y) = f else` is told: by its number the variant is Blank or Fault
+abbrev pub NoNumber : Field → Type 0
+NoNumber f = OneOf (1 ∷ 2 ∷ []) (tagOf the-type f)
+
+pub no-number : (f : Field) → NoNumber f → (y : ℕ) → f ≡ Number y → ⊥
+no-number (Number x) (inl t) y e = omega arith
+no-number (Number x) (inr t) y e = omega arith
+no-number Blank t y e = let z : _≡_ {A = ℕ} 0 1 = cc in omega arith
+no-number Fault t y e = let z : _≡_ {A = ℕ} 0 1 = cc in omega arith
 
 module _ (w at : ℕ) (line : List ℕ) (f : Field) (e : f ≡ fieldAt w at line) where
-  -- a line with a fault is no text that has the number's columns there
-  pub fault-in : (text : List ℕ) → f ≡ Fault → take w (drop at text) ≡ columns w (numberAt w at line) → line ≡ text → ⊥
+  -- a line that has a blank or a fault there is no text that has the number's columns there
+  pub fault-in : (text : List ℕ) → NoNumber f → take w (drop at text) ≡ columns w (numberAt w at line) → line ≡ text → ⊥
   unfolding fieldAt numberAt
-  fault-in text g c t = columns-no-fault w (take w (drop at line)) (ap (λ (l : List ℕ). take w (drop at l)) t ∙ c) (sym e ∙ g)
+  fault-in text g c t = no-number f g _ (e ∙ columns-number w (take w (drop at line)) (ap (λ (l : List ℕ). take w (drop at l)) t ∙ c))
 
   module _ (y : ℕ) (g : f ≡ Number y) where
     read : Reads w (take w (drop at line)) y

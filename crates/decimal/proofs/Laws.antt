@@ -10,14 +10,15 @@ use native.Mathlib.Nat.{pow-suc, pow-le-pow-right}
 use native.Mathlib.Numerals.{add-one}
 use native.Mathlib.Omega.{arith}
 use lib.ListN.{length, getD, take, set, length-append, List·getD-append}
-use lib.Seq.{sets, take-suc, take-take, take-all, take-at, getD-take, getD-at}
+use lib.Seq.{sets, take-suc, take-take, take-all, take-at, getD-take, getD-at, ext-getD}
 use lib.Dec.{eqb, leb, ltb}
 use borrow.Author.Tests.{eqb-true, eqb-false, eq-eqb, ne-eqb, leb-true, le-leb, ltb-true, lt-ltb, not-true, not-false}
 use Rattle.bounded.proofs.Bools.{clash, and-l, and-r, and-no-r, and-true, last?, split?, _&_}
 use Rattle.bounded.proofs.First.{Least, first-least}
 use Rattle.bounded.specs.Bounded.{first}
-use Rattle.decimal.specs.Decimal.{begun, column, columnsTo, columns, valueOf, sameBytes, fieldOf}
-use Rattle.decimal.specs.declared.Field.the-variants.{Number, Fault}
+use Rattle.decimal.specs.Decimal.{begun, column, columnsTo, columns, valueOf, sameBytes, spaces, unreadOf, fieldOf}
+use Rattle.decimal.specs.declared.Field.{Field}
+use Rattle.decimal.specs.declared.Field.the-variants.{Number, Blank, Fault}
 use Rattle.decimal.proofs.Bytes.{same-refl, same-eq, same-ne}
 use Rattle.decimal.proofs.Stores.{sets-last}
 
@@ -108,6 +109,47 @@ unfolding valueOf
 value-small last zero x = omega arith
 value-small last (suc w) x = rw (value-last last w x, pow-suc) (omega (arith, value-small false w (x / 10)))
 
+-- ---- spaces
+
+-- they are the columns of nothing that no last column ends
+pub spaces-columns : (w : ℕ) → columnsTo false w 0 ≡ spaces w
+unfolding columnsTo column spaces
+spaces-columns zero = refl
+spaces-columns (suc w) = rw (spaces-columns w)
+
+pub spaces-length : (w : ℕ) → length (spaces w) ≡ w
+spaces-length w = rw (← (spaces-columns w)) (to-length false w 0)
+
+space-at : (w i : ℕ) → i < w → getD (spaces w) i 0 ≡ 32
+unfolding spaces
+space-at zero i h = absurd (omega arith)
+space-at (suc w) i h = elim (last? h) [
+  | inl p ↦ rw p (getD-at (spaces w) 32 [] 0 w (spaces-length w))
+  | inr m ↦ List·getD-append (spaces w) (32 ∷ []) 0 i (omega (arith, spaces-length w)) ∙ space-at w i m
+]
+
+-- a byte that is no space makes them no blank
+pub no-blank : (w : ℕ) (s : List ℕ) (i : ℕ) → i < w → (getD s i 0 ≡ 32 → ⊥) → Fault ≡ unreadOf w s
+unfolding unreadOf
+no-blank w s i h n = rw (same-ne s (spaces w) (λ e. n (ap (λ (l : List ℕ). getD l i 0) e ∙ space-at w i h)))
+
+-- nothing but spaces is a blank
+pub all-blank : (s : List ℕ) (i : ℕ) → length s ≤ i → ((k : ℕ) → k < i → getD s k 0 ≡ 32) → Blank ≡ unreadOf (length s) s
+unfolding unreadOf
+all-blank s i n h =
+    let e : s ≡ spaces (length s) = ext-getD 0 s (spaces (length s)) (sym (spaces-length (length s))) (λ k l. h k (omega arith) ∙ sym (space-at (length s) k l)) in
+    let y : sameBytes s (spaces (length s)) ≡ true = rw (← e) (same-refl s) in
+    rw y
+
+-- neither a blank nor a fault is a number
+unread-no : (w : ℕ) (s : List ℕ) (x : ℕ) → unreadOf w s ≡ Number x → ⊥
+unfolding unreadOf
+unread-no w s x = go (sameBytes s (spaces w))
+  where
+    go : (b : Bool) → cond b Blank Fault ≡ Number x → ⊥
+    go true e = let z : _≡_ {A = ℕ} 0 1 = cc in omega arith
+    go false e = let z : _≡_ {A = ℕ} 0 1 = cc in omega arith
+
 -- ---- read and written
 
 pub value-written : (w x : ℕ) → x < 10 ^ w → valueOf w (columns w x) ≡ x
@@ -129,20 +171,19 @@ pub read-written : (w : ℕ) (s : List ℕ) (x : ℕ) → fieldOf w s ≡ Number
 unfolding fieldOf columns
 read-written w s x = go (sameBytes s (columns w (valueOf w s))) (same-eq s (columns w (valueOf w s)))
   where
-    go : (b : Bool) → (b ≡ true → s ≡ columns w (valueOf w s)) → cond b (Number (valueOf w s)) Fault ≡ Number x → Reads w s x
+    go : (b : Bool) → (b ≡ true → s ≡ columns w (valueOf w s)) → cond b (Number (valueOf w s)) (unreadOf w s) ≡ Number x → Reads w s x
     go true h e =
         let v : valueOf w s ≡ x = cc in
         let t : s ≡ columns w x = rw v at (h refl) in
         record { small = subst (λ (n : ℕ). n < 10 ^ w) (ap (valueOf w) (sym t) ∙ v) (value-small true w x); value = sym v; text = t }
-    go false h e = let z : _≡_ {A = ℕ} 0 1 = cc in absurd (omega arith)
+    go false h e = absurd (unread-no w s x e)
 
--- the columns of the value are no fault
-pub columns-no-fault : (w : ℕ) (s : List ℕ) → s ≡ columns w (valueOf w s) → fieldOf w s ≡ Fault → ⊥
+-- the columns of the value are a number
+pub columns-number : (w : ℕ) (s : List ℕ) → s ≡ columns w (valueOf w s) → fieldOf w s ≡ Number (valueOf w s)
 unfolding fieldOf
-columns-no-fault w s e f =
+columns-number w s e =
     let y : sameBytes s (columns w (valueOf w s)) ≡ true = rw (← e) (same-refl s) in
-    let g : Number (valueOf w s) ≡ Fault = rw y at f in
-    let z : _≡_ {A = ℕ} 0 1 = cc in omega arith
+    rw y
 
 -- ---- reading column by column
 
@@ -170,8 +211,9 @@ each-column last (suc w) s n e i h =
     ]
 
 pub fault-length : (w : ℕ) (s : List ℕ) → (length s ≡ w → ⊥) → Fault ≡ fieldOf w s
-unfolding fieldOf
-fault-length w s h = sym (rw (same-ne s (columns w (valueOf w s)) (λ e. h (ap length e ∙ columns-length w (valueOf w s)))))
+unfolding fieldOf unreadOf
+fault-length w s h =
+    rw (same-ne s (columns w (valueOf w s)) (λ e. h (ap length e ∙ columns-length w (valueOf w s))), same-ne s (spaces w) (λ e. h (ap length e ∙ spaces-length w)))
 
 -- what the loop has in hand of column i: x is the value before it, d its digit
 module _ (w : ℕ) (s : List ℕ) (i x d : ℕ) (n : length s ≡ w) (h : i < w) (v : x ≡ valueOf i s) (g : d ≡ getD s i 0 % 16) where
@@ -179,12 +221,12 @@ module _ (w : ℕ) (s : List ℕ) (i x d : ℕ) (n : length s ≡ w) (h : i < w)
   unfolding valueOf
   value-turn = rw (add-one, v, g)
 
-  -- a byte that is not its column makes the field a fault
-  fault-at : (getD s i 0 ≡ column (eqb (i + 1) w) (x * 10 + d) → ⊥) → Fault ≡ fieldOf w s
+  -- a byte that is not its column makes the field no number
+  unread-at : (getD s i 0 ≡ column (eqb (i + 1) w) (x * 10 + d) → ⊥) → unreadOf w s ≡ fieldOf w s
   unfolding fieldOf columns
-  fault-at other =
-      sym (rw (same-ne s (columns w (valueOf w s)) (λ e.
-      other (each-column true w s (omega arith) (take-all w s (omega arith) ∙ e) i h ∙ rw (value-turn, add-one)))))
+  unread-at other =
+      rw (same-ne s (columns w (valueOf w s)) (λ e.
+      other (each-column true w s (omega arith) (take-all w s (omega arith) ∙ e) i h ∙ rw (value-turn, add-one))))
 
   -- one byte more is its column
   column-read : take i s ≡ columnsTo (eqb i w) i x → getD s i 0 ≡ column (eqb (i + 1) w) (x * 10 + d)
@@ -231,7 +273,8 @@ module _ (w : ℕ) (s : List ℕ) (i : ℕ) (n : length s ≡ w) (f : i ≡ firs
   zero-led t =
       let l : i + 1 < w = ltb-true (i + 1) w (and-l (ltb (i + 1) w) _ t) in
       let z : getD s i 0 ≡ 48 = eqb-true (getD s i 0) 48 (and-r (ltb (i + 1) w) _ t) in
-      fault-at w s i 0 0 n (omega arith) (sym (front .0)) (rw z) (λ e. absurd (omega (arith, rw (z, ne-eqb (i + 1) w (λ q. omega arith)) at e)))
+      no-blank w s i (omega arith) (λ e. omega arith)
+      ∙ unread-at w s i 0 0 n (omega arith) (sym (front .0)) (rw z) (λ e. absurd (omega (arith, rw (z, ne-eqb (i + 1) w (λ q. omega arith)) at e)))
 
   pub begun-read : ltb (i + 1) w && eqb (getD s i 0) 48 ≡ false → Read-to w s i 0
   unfolding begun columnsTo
@@ -254,11 +297,12 @@ module _ (w : ℕ) (s : List ℕ) (i x : ℕ) (n : length s ≡ w) (h : i < w) (
   goes-on : eqb (i + 1) w ≡ false → i + 1 < w
   goes-on l = elim (split? (i + 1) w) [ inl k ↦ k | inr k ↦ absurd (eqb-false (i + 1) w l (omega arith)) ]
 
-  pub digit-lacks : not b ≡ true → Fault ≡ fieldOf w s
-  digit-lacks q =
-      fault-at w s i x (getD s i 0 % 16) n h (r .value) refl
+  pub digit-lacks : not b ≡ true → (f : Field) → f ≡ unreadOf (length s) s → f ≡ fieldOf w s
+  digit-lacks q f e =
+      e ∙ rw n
+      (unread-at w s i x (getD s i 0 % 16) n h (r .value) refl
       (no-digit (eqb (i + 1) w) (getD s i 0) (x * 10 + getD s i 0 % 16) (sym t ∙ not-true b q)
-      (λ z l. r .begins (omega arith) (goes-on l) .0))
+      (λ z l. r .begins (omega arith) (goes-on l) .0)))
 
   pub digit-more : not b ≡ false → (d : ℕ) → d ≡ getD s i 0 % 16 → Read-to w s (i + 1) (x * 10 + d)
   digit-more q d g =

@@ -12,17 +12,17 @@ use lib.ListN.{length, set, length-append}
 use lib.Seq.{sets, length-sets}
 use borrow.Author.Tests.{ne-eqb}
 use Rattle.bounded.proofs.Bools.{and-no-l, and-no-r}
-use Rattle.decimal.specs.Decimal.{column, columnsTo, columns}
-use Rattle.decimal.proofs.Laws.{to-length}
+use Rattle.decimal.specs.Decimal.{column, columnsTo, columns, spaces}
+use Rattle.decimal.proofs.Laws.{to-length, spaces-columns, spaces-length}
 use Rattle.decimal.proofs.Stores.{sets-append, sets-change, sets-over}
 
 -- ---- spaces
 
-pub spaces-more : (d b : List ℕ) (at j : ℕ) → b ≡ sets d at (columnsTo false j 0) → set b (at + j) 32 ≡ sets d at (columnsTo false (j + 1) 0)
-unfolding columnsTo column
-spaces-more d b at j e = rw (add-one, sets-append d at (columnsTo false j 0) (32 ∷ []), to-length false j 0, ← e)
+pub spaces-more : (d b : List ℕ) (at j : ℕ) → b ≡ sets d at (spaces j) → set b (at + j) 32 ≡ sets d at (spaces (j + 1))
+unfolding spaces
+spaces-more d b at j e = rw (add-one, sets-append d at (spaces j) (32 ∷ []), spaces-length j, ← e)
 
-pub spaces-all : (d b : List ℕ) (at w j : ℕ) → j ≤ w → w ≤ j → b ≡ sets d at (columnsTo false j 0) → b ≡ sets d at (columnsTo false w 0)
+pub spaces-all : (d b : List ℕ) (at w j : ℕ) → j ≤ w → w ≤ j → b ≡ sets d at (spaces j) → b ≡ sets d at (spaces w)
 spaces-all d b at w j h k e = let z : j ≡ w = omega arith in rw z at e
 
 -- ---- digits
@@ -84,7 +84,7 @@ module _ (w x at : ℕ) (d : List ℕ) where
       let f : b ≡ sets d at (columnsTo false i 0 ++ (32 ∷ tail)) = e ∙ ap (sets d at) (append-assoc (columnsTo false i 0) (32 ∷ []) tail) in
       ap (λ (k : ℕ). set b (at + k) c) (sym l) ∙ rw f (sets-change d at (columnsTo false i 0) 32 tail c)
 
-  pub last-shown : 1 ≤ w → x < 10 ^ w → (b : List ℕ) → b ≡ sets d at (columnsTo false w 0) → (c : ℕ) → c ≡ 48 + x % 10
+  pub last-shown : 1 ≤ w → x < 10 ^ w → (b : List ℕ) → b ≡ sets d at (spaces w) → (c : ℕ) → c ≡ 48 + x % 10
       → Shown w x at d (w - 1) (x / 10) (set b (at + (w - 1)) c)
   unfolding columns columnsTo
   last-shown h k b e c f =
@@ -95,7 +95,7 @@ module _ (w x at : ℕ) (d : List ℕ) where
         small = omega (arith, pow-suc 10 (w - 1));
         tail = c ∷ [];
         text = ap (λ (j : ℕ). columnsTo true j x) n ∙ rw (f, ← (last-digit x));
-        bytes = step (w - 1) c [] b (e ∙ ap (λ (j : ℕ). sets d at (columnsTo false j 0)) n ∙ ap (sets d at) (sym (append-nil (columnsTo false (suc (w - 1)) 0))));
+        bytes = step (w - 1) c [] b (e ∙ ap (sets d at) (sym (spaces-columns w)) ∙ ap (λ (j : ℕ). sets d at (columnsTo false j 0)) n ∙ ap (sets d at) (sym (append-nil (columnsTo false (suc (w - 1)) 0))));
       }
 
   digit-at : (i q : ℕ) (b : List ℕ) → Shown w x at d (suc i) q b → 0 < q → (c : ℕ) → c ≡ 48 + q % 10 → Shown w x at d i (q / 10) (set b (at + i) c)

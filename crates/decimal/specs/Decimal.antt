@@ -7,7 +7,7 @@ use mathlib.Core.Bool.{Bool, true, false, not, _&&_, cond}
 use lib.ListN.{getD, take, drop}
 use lib.Dec.{eqb}
 use Rattle.decimal.specs.declared.Field.{Field}
-use Rattle.decimal.specs.declared.Field.the-variants.{Number, Fault}
+use Rattle.decimal.specs.declared.Field.the-variants.{Number, Blank, Fault}
 
 -- The byte in one column, where q is the number that ends with this column: its last digit, or a space while q is nothing.
 -- The field's last column shows its digit even so.
@@ -39,9 +39,18 @@ sameBytes [] (y ∷ ys) = false
 sameBytes (x ∷ xs) [] = false
 sameBytes (x ∷ xs) (y ∷ ys) = eqb x y && sameBytes xs ys
 
--- what a field of w columns holds: a number, if it is that number's columns, and else a fault
+-- w spaces
+unfoldable pub spaces : ℕ → List ℕ
+spaces zero = []
+spaces (suc w) = spaces w ++ (32 ∷ [])
+
+-- what w columns hold that are no number's: a blank, if they are spaces, and else a fault
+unfoldable pub unreadOf : ℕ → List ℕ → Field
+unreadOf w s = cond (sameBytes s (spaces w)) Blank Fault
+
+-- what a field of w columns holds: a number, if it is that number's columns, and else a blank or a fault
 unfoldable pub fieldOf : ℕ → List ℕ → Field
-fieldOf w s = cond (sameBytes s (columns w (valueOf w s))) (Number (valueOf w s)) Fault
+fieldOf w s = cond (sameBytes s (columns w (valueOf w s))) (Number (valueOf w s)) (unreadOf w s)
 
 -- the field of w columns that starts at a place of a line, and the number that can stand there
 unfoldable pub fieldAt : ℕ → ℕ → List ℕ → Field

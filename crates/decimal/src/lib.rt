@@ -8,11 +8,12 @@ ghost use lib.Dec.{eqb, leb, ltb};
 ghost use lib.ListN.{length, getD, take, drop};
 ghost use lib.Seq.{sets};
 ghost use Rattle.bounded.specs.Bounded.{first};
-ghost use Rattle.decimal.specs.Decimal.{begun, column, columnsTo, columns, sameBytes, fieldOf, fieldAt, numberAt};
+ghost use Rattle.decimal.specs.Decimal.{begun, column, columns, sameBytes, spaces, unreadOf, fieldOf, fieldAt, numberAt};
 
 // What a number field holds.
 pub enum Field {
     Number(usize),
+    Blank,
     Fault,
 }
 
@@ -91,7 +92,21 @@ fn is_digit(b: u8) -> bool
     b <= b'9'
 }
 
-// Reads a field of w columns: spaces, then digits, and no zero in front of others.
+// What columns hold that are no number's.
+fn unread(s: &[u8]) -> Field
+    ensures { λ r. ⌜ r ≡ unreadOf (length (now (s .entry))) (now (s .entry)) ⌝ }
+{
+    let mut i = 0;
+    while i < s.len() {
+        if s[i] != b' ' {
+            return Field::Fault;
+        }
+        i += 1;
+    }
+    Field::Blank
+}
+
+// Reads a field of w columns: spaces, then digits, and no zero in front of others; or spaces alone.
 pub fn read_field(s: &[u8], w: usize) -> Field
     requires { ⌜ w ≤ 12 ⌝ }
     ensures { λ r. ⌜ r ≡ fieldOf w (now (s .entry)) ⌝ }
@@ -107,7 +122,7 @@ pub fn read_field(s: &[u8], w: usize) -> Field
     while i < w {
         let b = s[i];
         if !is_digit(b) {
-            return Field::Fault;
+            return unread(s);
         }
         x = x * 10 + digit(b);
         i += 1;
@@ -168,7 +183,7 @@ pub fn write_field(buf: &mut [u8], at: usize, w: usize, x: usize)
 // Writes w spaces from at on.
 fn write_spaces(buf: &mut [u8], at: usize, w: usize)
     requires { ⌜ at + w ≤ length (now buf) ⌝ }
-    ensures { λ _. ⌜ now (buf .exit) ≡ sets (now (buf .entry)) at (columnsTo false w 0) ⌝ }
+    ensures { λ _. ⌜ now (buf .exit) ≡ sets (now (buf .entry)) at (spaces w) ⌝ }
 {
     let mut j = 0;
     while j < w {

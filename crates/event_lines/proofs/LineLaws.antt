@@ -10,10 +10,10 @@ use lib.ListN.{length, getD, drop, drop-of-length-le}
 use lib.Seq.{drop-cons, sets}
 use Rattle.decimal.specs.Decimal.{columns, columnsTo, sameBytes, fieldAt, numberAt}
 use Rattle.decimal.specs.declared.Field.{Field}
-use Rattle.decimal.specs.declared.Field.the-variants.{Number, Fault}
+use Rattle.decimal.specs.declared.Field.the-variants.{Number}
 use Rattle.decimal.proofs.Bytes.{same-refl, same-eq, same-ne}
 use Rattle.decimal.proofs.Stores.{sets-next}
-use Rattle.decimal.proofs.Fields.{fault-in, number-is, field-then, number-in}
+use Rattle.decimal.proofs.Fields.{NoNumber, fault-in, number-is, field-then, number-in}
 use Rattle.event_lines.specs.Line.{lineText, isLine, lineOf}
 use Rattle.event_lines.specs.declared.Line.the-variants.{Given, Misformed}
 
@@ -31,7 +31,7 @@ module _ (line : List ℕ) where
   unfolding text lineText columns columnsTo
   other-size h = not-text (λ e. h (ap length e))
 
-  pub no-number : (f : Field) → f ≡ fieldAt 4 1 line → f ≡ Fault → Misformed ≡ lineOf line
+  pub no-number : (f : Field) → f ≡ fieldAt 4 1 line → NoNumber f → Misformed ≡ lineOf line
   unfolding text lineText columns columnsTo
   no-number f e g = not-text (fault-in 4 1 line f e text g refl)
 

@@ -11,9 +11,9 @@ use borrow.Author.Tests.{eq-eqb, ne-eqb, not-true, not-false}
 use Rattle.bounded.proofs.Bools.{and-no-r, went}
 use Rattle.decimal.specs.Decimal.{columns, columnsTo, sameBytes, fieldAt}
 use Rattle.decimal.specs.declared.Field.{Field}
-use Rattle.decimal.specs.declared.Field.the-variants.{Number, Fault}
+use Rattle.decimal.specs.declared.Field.the-variants.{Number}
 use Rattle.decimal.proofs.Bytes.{same-refl, same-ne}
-use Rattle.decimal.proofs.Fields.{fault-in, number-is, field-then}
+use Rattle.decimal.proofs.Fields.{NoNumber, fault-in, number-is, field-then}
 use Rattle.plan.specs.Limits.{isKind, isDesk}
 use Rattle.lines.specs.Form.{isFramed, bookingBytes}
 use Rattle.lines.specs.Booking.{bookingText, numberIn, kindIn, deskIn, isBooking, entryOf, bookingOf}
@@ -34,7 +34,7 @@ module _ (line : List ℕ) (x : ℕ) where
   unfolding text bookingText columns columnsTo isFramed
   no-frame b e q = not-text (unframed 66 bookingBytes line text b e q refl)
 
-  pub no-number : (f : Field) → f ≡ fieldAt 4 1 line → f ≡ Fault → Malformed ≡ bookingOf line x
+  pub no-number : (f : Field) → f ≡ fieldAt 4 1 line → NoNumber f → Malformed ≡ bookingOf line x
   unfolding text bookingText columns columnsTo
   no-number f e g = not-text (fault-in 4 1 line f e text g refl)
 
@@ -48,7 +48,7 @@ module _ (line : List ℕ) (x : ℕ) where
       let o : isKind (getD line 6 0) ≡ false = sym e ∙ not-true k q in
       rw (and-no-r (sameBytes line (bookingText (numberIn line) (getD line 6 0) (deskIn line))) (isKind (getD line 6 0)) o)
 
-  pub no-desk-field : (f : Field) → f ≡ fieldAt 4 7 line → f ≡ Fault → Malformed ≡ bookingOf line x
+  pub no-desk-field : (f : Field) → f ≡ fieldAt 4 7 line → NoNumber f → Malformed ≡ bookingOf line x
   unfolding text bookingText columns columnsTo
   no-desk-field f e g = not-text (fault-in 4 7 line f e text g refl)
 

@@ -9,9 +9,9 @@ use lib.ListN.{drop}
 use borrow.Author.Tests.{not-true, not-false}
 use Rattle.decimal.specs.Decimal.{columns, columnsTo, sameBytes, fieldAt}
 use Rattle.decimal.specs.declared.Field.{Field}
-use Rattle.decimal.specs.declared.Field.the-variants.{Number, Fault}
+use Rattle.decimal.specs.declared.Field.the-variants.{Number}
 use Rattle.decimal.proofs.Bytes.{same-refl, same-ne}
-use Rattle.decimal.proofs.Fields.{fault-in, number-is, field-then}
+use Rattle.decimal.proofs.Fields.{NoNumber, fault-in, number-is, field-then}
 use Rattle.plan.specs.Limits.{limits}
 use Rattle.lines.specs.Form.{isFramed, headBytes}
 use Rattle.lines.specs.Head.{headText, bookingCountIn, linkCountIn, wayCountIn, limitIn, isHead, countsOf, headOf}
@@ -32,19 +32,19 @@ module _ (line : List ℕ) where
   unfolding text headText columns columnsTo isFramed
   no-frame b e q = not-text (unframed 80 headBytes line text b e q refl)
 
-  pub no-bookings : (f : Field) → f ≡ fieldAt 4 1 line → f ≡ Fault → Malformed ≡ headOf line
+  pub no-bookings : (f : Field) → f ≡ fieldAt 4 1 line → NoNumber f → Malformed ≡ headOf line
   unfolding text headText columns columnsTo
   no-bookings f e g = not-text (fault-in 4 1 line f e text g refl)
 
-  pub no-links : (f : Field) → f ≡ fieldAt 4 5 line → f ≡ Fault → Malformed ≡ headOf line
+  pub no-links : (f : Field) → f ≡ fieldAt 4 5 line → NoNumber f → Malformed ≡ headOf line
   unfolding text headText columns columnsTo
   no-links f e g = not-text (fault-in 4 5 line f e text g refl)
 
-  pub no-ways : (f : Field) → f ≡ fieldAt 4 9 line → f ≡ Fault → Malformed ≡ headOf line
+  pub no-ways : (f : Field) → f ≡ fieldAt 4 9 line → NoNumber f → Malformed ≡ headOf line
   unfolding text headText columns columnsTo
   no-ways f e g = not-text (fault-in 4 9 line f e text g refl)
 
-  pub no-limit : (f : Field) → f ≡ fieldAt 4 13 line → f ≡ Fault → Malformed ≡ headOf line
+  pub no-limit : (f : Field) → f ≡ fieldAt 4 13 line → NoNumber f → Malformed ≡ headOf line
   unfolding text headText columns columnsTo
   no-limit f e g = not-text (fault-in 4 13 line f e text g refl)
 

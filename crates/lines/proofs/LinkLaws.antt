@@ -9,9 +9,9 @@ use lib.ListN.{drop}
 use borrow.Author.Tests.{not-true, not-false}
 use Rattle.decimal.specs.Decimal.{columns, columnsTo, sameBytes, fieldAt}
 use Rattle.decimal.specs.declared.Field.{Field}
-use Rattle.decimal.specs.declared.Field.the-variants.{Number, Fault}
+use Rattle.decimal.specs.declared.Field.the-variants.{Number}
 use Rattle.decimal.proofs.Bytes.{same-refl, same-ne}
-use Rattle.decimal.proofs.Fields.{fault-in, number-is, field-then}
+use Rattle.decimal.proofs.Fields.{NoNumber, fault-in, number-is, field-then}
 use Rattle.plan.specs.Limits.{inSequence}
 use Rattle.lines.specs.Form.{isFramed, linkBytes}
 use Rattle.lines.specs.Link.{linkText, fromIn, toIn, isLink, pairOf, linkOf}
@@ -32,11 +32,11 @@ module _ (line : List ℕ) (n lastFrom lastTo : ℕ) where
   unfolding text linkText columns columnsTo isFramed
   no-frame b e q = not-text (unframed 76 linkBytes line text b e q refl)
 
-  pub no-first : (f : Field) → f ≡ fieldAt 4 1 line → f ≡ Fault → Malformed ≡ linkOf line n lastFrom lastTo
+  pub no-first : (f : Field) → f ≡ fieldAt 4 1 line → NoNumber f → Malformed ≡ linkOf line n lastFrom lastTo
   unfolding text linkText columns columnsTo
   no-first f e g = not-text (fault-in 4 1 line f e text g refl)
 
-  pub no-second : (f : Field) → f ≡ fieldAt 4 5 line → f ≡ Fault → Malformed ≡ linkOf line n lastFrom lastTo
+  pub no-second : (f : Field) → f ≡ fieldAt 4 5 line → NoNumber f → Malformed ≡ linkOf line n lastFrom lastTo
   unfolding text linkText columns columnsTo
   no-second f e g = not-text (fault-in 4 5 line f e text g refl)
 

@@ -16,7 +16,8 @@ use Rattle.plan.specs.Limits.{within}
 use Rattle.plan.proofs.LimitLaws.{within-hi}
 use Rattle.decimal.specs.Decimal.{fieldAt}
 use Rattle.decimal.specs.declared.Field.{Field}
-use Rattle.decimal.specs.declared.Field.the-variants.{Number, Fault}
+use Rattle.decimal.specs.declared.Field.the-variants.{Number, Blank, Fault}
+use Rattle.decimal.proofs.Fields.{NoNumber, no-number}
 use Rattle.ways.specs.WayText.{wayFrontBytes, wayBytes}
 use Rattle.ways.specs.Way.{countOf, isNumber, numberThere, sequenceOrForm, afterNumber, gatherOf, lineFeedAt, asWay, membersOf, afterCount, wayLineOf}
 use Rattle.ways.specs.Ways.{afterWay, waysOf}
@@ -53,8 +54,10 @@ no-line-feed s at h = rw (List·getD-eq-default s 0 h)
 pub is-one : (f g : Field) (x : ℕ) → f ≡ g → f ≡ Number x → true ≡ isNumber g
 is-one f g x e q = rw (← e, q)
 
-pub is-none : (f g : Field) → f ≡ g → f ≡ Fault → false ≡ isNumber g
-is-none f g e q = rw (← e, q)
+pub is-none : (f g : Field) → f ≡ g → NoNumber f → false ≡ isNumber g
+is-none (Number x) g e q = absurd (no-number (Number x) q x refl)
+is-none Blank g e q = rw (← e)
+is-none Fault g e q = rw (← e)
 
 there : (s : List ℕ) (at j : ℕ) → isNumber (fieldAt 4 (at + 4 * j) s) ≡ numberThere (drop at s) j
 unfolding numberThere fieldAt
@@ -78,6 +81,12 @@ form-told k fields x e q = rw (← e, q)
 
 -- ---- the set of the numbers
 
+-- neither a blank nor a fault is a member
+no-member : (f : Field) → NoNumber f → (n last : ℕ) (refused : Gathered) (next : ℕ → Gathered) → G.Malformed ≡ afterNumber f n last refused next
+no-member (Number x) q n last refused next = absurd (no-number (Number x) q x refl)
+no-member Blank q n last refused next = refl
+no-member Fault q n last refused next = refl
+
 module _ (n last set k j at : ℕ) (s : List ℕ) (f : Field) (whole : Gathered) (h : j < k) (e : f ≡ fieldAt 4 (at + 4 * j) s)
     (w : gatherOf n last set (k - j) (drop (at + 4 * j) s) ≡ whole) where
   turn : afterNumber f n last (sequenceOrForm (k - (j + 1)) (drop (at + 4 * (j + 1)) s))
@@ -88,8 +97,8 @@ module _ (n last set k j at : ℕ) (s : List ℕ) (f : Field) (whole : Gathered)
       let d : at + 4 * j + 4 ≡ at + 4 * (j + 1) = omega arith in
       rw (e, ← d, ← drop-drop 4 (at + 4 * j) s) (rw c at w)
 
-  pub gather-fault : f ≡ Fault → G.Malformed ≡ whole
-  gather-fault g = rw g at turn
+  pub gather-fault : NoNumber f → G.Malformed ≡ whole
+  gather-fault g = no-member f g n last _ _ ∙ turn
 
   module _ (x : ℕ) (b : Bool) (g : f ≡ Number x) (t : b ≡ within (last + 1) x n) where
     pub gather-out : (r : Gathered) → not b ≡ true → r ≡ sequenceOrForm (k - (j + 1)) (drop (at + 4 * (j + 1)) s) → r ≡ whole
@@ -110,13 +119,19 @@ gather-end n last set k j fields whole h w =
 
 -- ---- a line
 
+-- nor is it a count
+none-counted : (f : Field) → NoNumber f → (n : ℕ) (rest : List ℕ) → Malformed ≡ afterCount f n rest
+none-counted (Number x) q n rest = absurd (no-number (Number x) q x refl)
+none-counted Blank q n rest = refl
+none-counted Fault q n rest = refl
+
 module _ (n at : ℕ) (s front : List ℕ) (f : Field) (p : front ≡ take wayFrontBytes (drop at s)) (e : f ≡ countOf front) where
   by-count : wayLineOf n (drop at s) ≡ afterCount f n (drop at s)
   unfolding wayLineOf
   by-count = rw (e, p)
 
-  pub no-count : f ≡ Fault → Malformed ≡ wayLineOf n (drop at s)
-  no-count g = rw (by-count, g)
+  pub no-count : NoNumber f → Malformed ≡ wayLineOf n (drop at s)
+  no-count g = rw by-count (none-counted f g n (drop at s))
 
   module _ (k : ℕ) (g : f ≡ Number k) (b : Bool) (t : b ≡ within 1 k n) where
     pub count-out : not b ≡ true → OutOfLimits ≡ wayLineOf n (drop at s)
@@ -154,6 +169,7 @@ few-counted n k x rest (Number c) e =
     go true true h e = few-gathered n c k x (gatherOf n 0 0 c (drop wayFrontBytes rest)) (h refl) e
     go true false h e = clash true refl (cc)
     go false b h e = clash true refl (cc)
+few-counted n k x rest Blank e = clash true refl (cc)
 few-counted n k x rest Fault e = clash true refl (cc)
 
 pub few-members : (n : ℕ) (rest : List ℕ) (b : Way) (k x : ℕ) → b ≡ wayLineOf n rest → b ≡ Members k x → k ≤ n

@@ -22,7 +22,7 @@ use Rattle.plan.specs.Limits.{within}
 use Rattle.plan.proofs.LimitLaws.{within-lo, within-hi, within-i}
 use Rattle.decimal.specs.Decimal.{columns, fieldOf, fieldAt, numberAt}
 use Rattle.decimal.specs.declared.Field.{Field}
-use Rattle.decimal.specs.declared.Field.the-variants.{Number, Fault}
+use Rattle.decimal.specs.declared.Field.the-variants.{Number, Blank, Fault}
 use Rattle.decimal.proofs.Fields.{number-in, field-front, field-text}
 use Rattle.decimal.proofs.Laws.{columns-length, written-read, read-written}
 use Rattle.ways.specs.WayText.{members, numbersText, wayFrontBytes, wayBytes, wayFront, wayText}
@@ -135,6 +135,7 @@ numbers-accepted n (suc k) l s x fields e =
             → cond b (gatherOf n z (insert s (z - 1)) k (drop 4 fields)) (sequenceOrForm k (drop 4 fields)) ≡ G.Set x → Numbers n l s (suc k) x fields
         pick true p q i = one-more n l s k x z fields (p refl) (q refl) (t z refl) (next z i)
         pick false p q i = refused-no-set k x (drop 4 fields) i
+    go next Blank t j = clash true refl (cc)
     go next Fault t j = clash true refl (cc)
 
 -- what an accepted line is: the line of the set, which has the count that the line lists, and bookings of n alone
@@ -212,4 +213,5 @@ way-accepted n k s rest h = go (countOf (take wayFrontBytes rest)) (λ c. count-
 
     go : (f : Field) → ((c : ℕ) → f ≡ Number c → take wayFrontBytes rest ≡ wayFront c) → afterCount f n rest ≡ Members k s → WayIs n k s rest
     go (Number c) r q = body c (r c refl) (within 1 c n) (lineFeedAt (wayFrontBytes + 4 * c) rest) refl refl q
+    go Blank r q = clash true refl (cc)
     go Fault r q = clash true refl (cc)

@@ -12,7 +12,7 @@ use Rattle.sets.specs.Sets.{insert}
 use Rattle.plan.specs.Limits.{within}
 use Rattle.decimal.specs.Decimal.{fieldAt}
 use Rattle.decimal.specs.declared.Field.{Field}
-use Rattle.decimal.specs.declared.Field.the-variants.{Number, Fault}
+use Rattle.decimal.specs.declared.Field.the-variants.{Number, Blank, Fault}
 use Rattle.ways.specs.WayText.{wayFrontBytes}
 use Rattle.ways.specs.declared.Gathered.{Gathered}
 use Rattle.ways.specs.declared.Gathered.the-variants as G
@@ -25,6 +25,7 @@ countOf front = cond (eqb (getD front 0 0) 65) (fieldAt 4 1 front) Fault
 
 abbrev pub isNumber : Field → Bool
 isNumber (Number x) = true
+isNumber Blank = false
 isNumber Fault = false
 
 -- field j is a number
@@ -38,6 +39,7 @@ sequenceOrForm k fields = cond (all (numberThere fields) k) G.OutOfSequence G.Ma
 -- on with a number that is above the last and at most n
 abbrev pub afterNumber : Field → ℕ → ℕ → Gathered → (ℕ → Gathered) → Gathered
 afterNumber (Number x) n last refused next = cond (within (last + 1) x n) (next x) refused
+afterNumber Blank n last refused next = G.Malformed
 afterNumber Fault n last refused next = G.Malformed
 
 -- the set s with k numbers more, which rise strictly from above last and are at most n; booking number x has index x - 1
@@ -62,6 +64,7 @@ membersOf n k rest = cond (lineFeedAt (wayFrontBytes + 4 * k) rest) (asWay k (ga
 -- a way has 1 to n bookings
 abbrev pub afterCount : Field → ℕ → List ℕ → Way
 afterCount (Number k) n rest = cond (within 1 k n) (membersOf n k rest) OutOfLimits
+afterCount Blank n rest = Malformed
 afterCount Fault n rest = Malformed
 
 -- the first line of the rest of a sheet, as a way of a plan with n bookings

@@ -63,10 +63,10 @@ fn read_count(front: &[u8]) -> Field
 fn is_number(s: &[u8], at: usize) -> bool
     ensures { λ r. ⌜ r ≡ isNumber (fieldAt 4 at (now (s .entry))) ⌝ }
 {
-    match decimal::field_at(s, at, 4) {
-        Field::Number(_) => true,
-        Field::Fault => false,
-    }
+    let Field::Number(_) = decimal::field_at(s, at, 4) else {
+        return false;
+    };
+    true
 }
 
 // Whether the k fields from at on are numbers.

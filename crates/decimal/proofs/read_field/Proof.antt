@@ -40,7 +40,10 @@ roomy : (c : tie.At-loop Inv-loop μ-loop) → c .loop .i < c .before .before .b
 roomy c h = let a = c .before .before .before .before .before .before in room (c .loop .i) (now (a .args .s)) (c .loop .x) (omega (arith, a .pre)) (c .loop .inv .value)
 
 returns-3 : tie.Need-returns-3 Inv-loop μ-loop
-returns-3 c = let l = c .before .before .before .before in digit-lacks _ _ (l .loop .i) _ (told l) (c .before .before .before .loop-test .taken) (l .loop .inv) _ (c .before .is-digit .ensures) (c .if3 .taken)
+returns-3 c =
+    let g = c .before in
+    let l = g .before .before .before .before in
+    digit-lacks _ _ (l .loop .i) _ (told l) (g .before .before .before .loop-test .taken) (l .loop .inv) _ (g .before .is-digit .ensures) (g .if3 .taken) _ (c .unread .ensures)
 
 mul-x : tie.Need-mul-x Inv-loop μ-loop
 mul-x c = omega (arith, roomy (c .before .before .before .before) (c .before .before .before .loop-test .taken))
@@ -68,6 +71,7 @@ read-field-spec =
     leads-zero-requires
     returns-2
     loop-holds
+    (search needs)
     (search needs)
     (search needs)
     returns-3

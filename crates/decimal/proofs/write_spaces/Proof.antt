@@ -2,24 +2,23 @@
 -- Assumes nothing.
 use Prim.Native.Nat.{_-_, _≤_}
 use mathlib.Core.Path.{_≡_, refl}
-use mathlib.Core.Bool.{false}
 use native.Mathlib.Omega.{arith}
 use lib.ListN.{length}
 use lib.Seq.{sets}
 use borrow.Author.Needs.{needs}
-use Rattle.decimal.specs.Decimal.{columnsTo}
+use Rattle.decimal.specs.Decimal.{spaces}
 use Rattle.decimal.proofs.Numbers.{spaces-more, spaces-all}
 use Rattle.decimal.proofs.write_spaces.Statement.{statement}
 use Rattle.decimal.proofs.write_spaces.Tie as tie
 
 abbrev Inv-loop : tie.InvT-loop
-Inv-loop buf₀ at w j₀ buf j = (j ≤ w) × (length buf ≡ length buf₀) × (buf ≡ sets buf₀ at (columnsTo false j 0))
+Inv-loop buf₀ at w j₀ buf j = (j ≤ w) × (length buf ≡ length buf₀) × (buf ≡ sets buf₀ at (spaces j))
 
 abbrev μ-loop : tie.MeasureT-loop
 μ-loop buf₀ at w j₀ buf j = w - j
 
 loop-holds : tie.Need-loop-holds Inv-loop μ-loop
-unfolding columnsTo
+unfolding spaces
 loop-holds c = (search needs, refl, refl)
 
 loop-again : tie.Need-loop-again Inv-loop μ-loop

@@ -31,7 +31,6 @@ read-line-spec =
     returns
     (search needs)
     (search needs)
-    (search needs)
     returns-2
     (search needs)
     returns-3

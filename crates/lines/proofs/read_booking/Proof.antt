@@ -66,14 +66,12 @@ read-booking-spec =
     returns
     (search needs)
     (search needs)
-    (search needs)
     returns-2
     shared-slice-read-if2
     returns-3
     shared-slice-read-k
     (search needs)
     returns-4
-    (search needs)
     (search needs)
     (search needs)
     returns-5

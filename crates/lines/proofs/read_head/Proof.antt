@@ -34,17 +34,13 @@ read-head-spec =
     returns
     (search needs)
     (search needs)
-    (search needs)
     returns-2
-    (search needs)
     (search needs)
     (search needs)
     returns-3
     (search needs)
     (search needs)
-    (search needs)
     returns-4
-    (search needs)
     (search needs)
     (search needs)
     returns-5

@@ -41,9 +41,7 @@ read-link-spec =
     returns
     (search needs)
     (search needs)
-    (search needs)
     returns-2
-    (search needs)
     (search needs)
     (search needs)
     returns-3

@@ -66,7 +66,6 @@ gather-spec =
     (search needs)
     (search needs)
     (search needs)
-    (search needs)
     returns
     (search needs)
     (search needs)

@@ -53,16 +53,15 @@ returns-4 : tie.Need-returns-4
 returns-4 c = ap (asWay _) (sym (c .before .x .given .1)) ∙ line (c .before .before .before)
 
 returns-5 : tie.Need-returns-5
-returns-5 c = ap (asWay _) (sym (c .enum-told2 .given .1)) ∙ line (c .before .before)
+returns-5 c = ap (asWay _) (sym (c .enum-told .given .1)) ∙ line (c .before .before)
 
 returns-6 : tie.Need-returns-6
-returns-6 c = ap (asWay _) (sym (c .enum-told3 .given .1)) ∙ line (c .before .before)
+returns-6 c = ap (asWay _) (sym (c .enum-told2 .given .1)) ∙ line (c .before .before)
 
 pub read-way-spec : {M : Type 1} → statement M
 read-way-spec =
     tie.close
     (tie.spec
-    (search needs)
     (search needs)
     (search needs)
     (search needs)
