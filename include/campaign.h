@@ -100,12 +100,14 @@ extern "C" {
 #define CAMPAIGN_BLOCK_LINE_LENGTH 6
 #define CAMPAIGN_JOURNAL_LINE_LENGTH 6
 
-/* A bill: bytes of a line of the fee sheet, of a booking's line and of the last
-   line in the report, and the most of them all; lines that a journal may have. */
-#define CAMPAIGN_FEE_LINE_LENGTH 18
-#define CAMPAIGN_SETTLED_LINE_LENGTH 30
-#define CAMPAIGN_TOTAL_LINE_LENGTH 14
-#define CAMPAIGN_LONGEST_REPORT 1934
+/* A bill: bytes of a line of the fee sheet, of a booking's line, of a way's line
+   and of the last line in the report, and the most of them all; lines that a
+   journal may have. */
+#define CAMPAIGN_FEE_LINE_LENGTH 30
+#define CAMPAIGN_SETTLED_LINE_LENGTH 42
+#define CAMPAIGN_WAY_LINE_LENGTH 30
+#define CAMPAIGN_TOTAL_LINE_LENGTH 26
+#define CAMPAIGN_LONGEST_REPORT 3194
 #define CAMPAIGN_MOST_SETTLED_LINES 10000
 
 /* What each booking's byte says. */
@@ -142,8 +144,9 @@ enum campaign_kind {
 /*
  * The refusals; in brackets the place. Lines are counted from 1. Of several
  * faults the first is given: 1 to 3 line by line from the top (on one line 1,
- * then 2, then 3), then 4 to 8, then 11 or 14, then 9 or 12, then 13, then 10.
- * Where 9 stands here, a block has 1 or 9, whichever its first bad line has.
+ * then 2, then 3), then 4 to 8, then 11 or 14, then 9 or 12, then 13 or 15 line
+ * by line (on one line 13, then 15), then 10. Where 9 stands here, a block has 1
+ * or 9, whichever its first bad line has.
  */
 enum campaign_refusal {
     /* Not refused. */
@@ -189,12 +192,15 @@ enum campaign_refusal {
        was due there, or is a reply that does not fit (the line; 65535 for any
        line beyond). */
     CAMPAIGN_WRONG_LINE = 12,
-    /* A line of the fee sheet is not of its form, is out of sequence or is
-       missing, or bytes follow the last line (the fee sheet's line; for bytes
-       too many the line after the last). */
+    /* A line of the fee sheet is not of its form, has a blank where the least
+       fee must be, is out of sequence or is missing, or bytes follow the last
+       line (the fee sheet's line; for bytes too many the line after the last). */
     CAMPAIGN_WRONG_FEE = 13,
     /* The journal has more than 10,000 whole lines, too many for a bill (0). */
-    CAMPAIGN_LONG_JOURNAL = 14
+    CAMPAIGN_LONG_JOURNAL = 14,
+    /* A quote, for a confirmation or for a return, has its least above its
+       greatest (the fee sheet's line, which is the booking). */
+    CAMPAIGN_CROSSED_QUOTE = 15
 };
 
 /* An answer is kind * 16777216 + refusal * 65536 + place. */
@@ -409,22 +415,43 @@ uint32_t campaign_restart(const uint8_t *sheet, size_t sheet_len,
 /* ================================ Bill ================================ */
 
 /*
- * A fee sheet has one line for each booking of the plan sheet, in order: F, the
- * booking in four columns, the fee for a confirmation and the fee for a return,
- * 0 to 999,999 in six columns each, a line feed. Nothing follows the last line.
- * The numbers are written as on a plan sheet; zero is spaces and 0.
+ * A desk quotes each fee as two amounts, the least and the greatest that it may
+ * come to. A fee sheet has one line of 30 bytes for each booking of the plan
+ * sheet, in order: F, the booking in four columns, then in six columns each, 0 to
+ * 999,999, the least and the greatest fee for a confirmation, the least and the
+ * greatest fee for a return, and a line feed. Nothing follows the last line. The
+ * numbers are written as on a plan sheet; zero is spaces and 0. A greatest fee
+ * that is blank, six spaces, means the same as its least; the spaces must stand
+ * before the line feed too. The least must be there, and may not be above the
+ * greatest.
  *
- *     F   1   150    20      booking 1: 150 each time it is confirmed, 20 each
- *                            time it is returned
- *     F   2  4000     0
+ *     F   1   150   180    20    35   booking 1: 150 to 180 each time it is
+ *                                     confirmed, 20 to 35 each time it is returned
+ *     F   2  4000  6000     0     0
+ *     F   3   900          40    45   900 each time it is confirmed
+ *     F   4    70           0     0
  *
  * The report has one line for each booking, in order: S, the booking in four
  * columns, how often it was confirmed and how often returned in six columns
- * each, its amount in twelve, a line feed. Then T and the total in twelve:
+ * each, its amount at the least and at the greatest fees in twelve columns each,
+ * a line feed. Then one line for each way, in order: M, the way in four columns,
+ * the sum of its bookings' least and of their greatest fees for a confirmation in
+ * twelve columns each, a line feed. Each booking of the way counts once there,
+ * whatever the journal says. Then T and the total at the least and at the
+ * greatest fees in twelve columns each, a line feed. Whatever each fee comes to
+ * within its quote, the amount, sum or total lies between the two, and both can
+ * be reached.
  *
- *     S   1     1     1         170
- *     S   2     1     0        4000
- *     T        4170
+ * By the fees above, on the sheet of the flight with a tanker: the range slot was
+ * confirmed, the tanker refused, and the range slot returned.
+ *
+ *     S   1     1     1         170         215
+ *     S   2     0     0           0           0
+ *     S   3     0     0           0           0
+ *     S   4     0     0           0           0
+ *     M   1        5050        7080
+ *     M   2        4220        6250
+ *     T         170         215
  */
 
 /*
@@ -433,12 +460,15 @@ uint32_t campaign_restart(const uint8_t *sheet, size_t sheet_len,
  * never confirmed has its line too. One to five bytes after the journal's last
  * whole line are dropped.
  *
- * Accepted with the length of the report as place, 30 for each booking and 14;
- * the report stands at the front of the lent bytes, and later bytes keep their
- * values. Refused with 1 to 8 as by check, then with 14 if the journal has more
- * than 10,000 whole lines, then with 12 as by restart, then with 13 and the
- * first line of the fee sheet that is wrong, then with 10 if the report has no
- * room in report_len bytes.
+ * Accepted with the length of the report as place, 42 for each booking, 30 for
+ * each way and 26; the report stands at the front of the lent bytes, and later
+ * bytes keep their values. Refused with 1 to 8 as by check, then with 14 if the
+ * journal has more than 10,000 whole lines, then with 12 as by restart, then for
+ * the first line of the fee sheet that is wrong, with that line as place: with 13
+ * if it is not of its form, has a blank least, is out of sequence or is missing,
+ * else with 15 if in one of its two quotes the least is above the greatest. Bytes
+ * after the last line are 13 once all lines are right. Then refused with 10 if the
+ * report has no room in report_len bytes.
  */
 uint32_t campaign_settle(const uint8_t *sheet, size_t sheet_len,
                          const uint8_t *fees, size_t fees_len,

@@ -3,7 +3,8 @@
 use crate::blocks::{self, block_of, Wide};
 use crate::campaign::{record, Dice, State};
 use crate::journal::LINE_LENGTH;
-use crate::settlements::{fees_for, LONGEST_REPORT};
+use crate::settle::FEE_LINE;
+use crate::settlements::{fees_for, length_for, LONGEST_REPORT};
 use crate::sheets::{Endless, Sheet};
 use crate::{calls, library, restart, settlements};
 
@@ -87,7 +88,7 @@ fn damaged_sheets(compared: &mut Compared, sheet: &[u8], dice: &mut Dice, times:
         compared.step(&bytes, &[0; 65], "start, damaged sheet", Step::Start);
         compared.step(&bytes, &[0; 65], "restart, damaged sheet", Step::Restart(b"Q   1\nY   1\n"));
         compared.step(&bytes, &[1; 65], "block, damaged sheet", Step::Block(b"Y   1\nN   2\n"));
-        compared.settle(&bytes, b"F   1     3     2\n", b"Q   1\nY   1\n", 44);
+        compared.settle(&bytes, b"F   1     3     4     2      \n", b"Q   1\nY   1\n", 98);
     }
 }
 
@@ -128,16 +129,19 @@ fn restarts(compared: &mut Compared, sheet: &[u8], journal: &[u8], dice: &mut Di
     }
 }
 
-/// A fee sheet cut at a byte, with a byte changed, or with a line doubled, dropped or more behind it.
+/// A fee sheet cut at a byte, with a byte changed, a field left blank or a quote turned round, or with a line
+/// doubled, dropped or more behind it.
 fn damaged_fees(fees: &[u8], dice: &mut Dice) -> Vec<u8> {
     let mut bytes = fees.to_vec();
     let at = dice.below(bytes.len());
-    let line = at - at % 18;
-    match dice.below(5) {
+    let line = at - at % FEE_LINE;
+    match dice.below(7) {
         0 => bytes.truncate(at),
         1 => bytes[at] = b" 0123456789FfS\n\0"[dice.below(16)],
-        2 => bytes.extend_from_within(line..line + 18),
-        3 => drop(bytes.drain(line..line + 18)),
+        2 => bytes.extend_from_within(line..line + FEE_LINE),
+        3 => drop(bytes.drain(line..line + FEE_LINE)),
+        4 => bytes[line + 5..][6 * dice.below(4)..][..6].fill(b' '),
+        5 => bytes[line + 5..][12 * dice.below(2)..][..12].rotate_left(6),
         _ => bytes.push(b'F'),
     }
     bytes
@@ -146,7 +150,7 @@ fn damaged_fees(fees: &[u8], dice: &mut Dice) -> Vec<u8> {
 /// A journal settled, with room of any length; the journal damaged, the fee sheet, or both.
 fn some_settlements(compared: &mut Compared, sheet: &[u8], journal: &[u8], dice: &mut Dice) {
     let fees = fees_for(sheet);
-    let length = fees.len() / 18 * 30 + 14;
+    let length = length_for(sheet);
     compared.settle(sheet, &fees, journal, LONGEST_REPORT);
     for room in [0, dice.below(length), length - 1, length, length + 1] {
         compared.settle(sheet, &fees, journal, room);
@@ -234,7 +238,7 @@ pub fn compare_settlements(sheets: &[Endless]) -> usize {
     for endless in sheets {
         let sheet = &endless.sheet.bytes;
         let fees = fees_for(sheet);
-        let settled = calls::pack(6, 0, (fees.len() / 18 * 30 + 14) as u32);
+        let settled = calls::pack(6, 0, length_for(sheet) as u32);
         for journal in settlements::journals(endless) {
             let answer = library::settle(sheet, &fees, &journal, &mut [9; LONGEST_REPORT]);
             compared.same(answer, settled, "settle, right journal", sheet);

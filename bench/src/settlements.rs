@@ -2,6 +2,7 @@
 
 use crate::measure::{measure, Pass, Times};
 use crate::restart;
+use crate::settle::{BOOKING_LINE, TOTAL_LINE, WAY_LINE};
 use crate::sheets::Endless;
 use crate::{calls, library};
 use std::hint::black_box;
@@ -9,15 +10,32 @@ use std::hint::black_box;
 /// None longer is settled.
 pub const LINES: [usize; 4] = [0, 10, 1_000, 10_000];
 
-/// Room for the report on as many bookings as there can be.
-pub const LONGEST_REPORT: usize = 30 * 64 + 14;
+/// Room for the report on as many bookings and ways as there can be.
+pub const LONGEST_REPORT: usize = BOOKING_LINE * 64 + WAY_LINE * 16 + TOTAL_LINE;
 
-/// A fee sheet for a plan sheet: fees of all lengths.
+/// The number in these four columns of the head of a sheet that passes.
+fn count_at(sheet: &[u8], column: usize) -> usize {
+    let columns = String::from_utf8_lossy(&sheet[column..column + 4]);
+    columns.trim().parse().expect("a sheet that passes")
+}
+
+/// A fee sheet for a plan sheet: fees of all lengths; each third greatest is left blank.
 pub fn fees_for(sheet: &[u8]) -> Vec<u8> {
-    let bookings: usize = String::from_utf8_lossy(&sheet[1..5]).trim().parse().expect("a sheet that passes");
-    let fees = |b: usize| (b * 7_919 % 1_000_000, 10usize.pow(b as u32 % 6) + b);
-    let line = |b: usize| format!("F{b:4}{:6}{:6}\n", fees(b).0, fees(b).1).into_bytes();
-    (1..=bookings).flat_map(line).collect()
+    let quote = |least: usize, at: usize| match at % 3 {
+        0 => format!("{least:6}      "),
+        1 => format!("{least:6}{least:6}"),
+        _ => format!("{least:6}{:6}", (least + least / 2).min(999_999)),
+    };
+    let line = |b: usize| {
+        let (confirmation, returning) = (b * 7_919 % 1_000_000, 10usize.pow(b as u32 % 6) + b);
+        format!("F{b:4}{}{}\n", quote(confirmation, b), quote(returning, b / 3)).into_bytes()
+    };
+    (1..=count_at(sheet, 1)).flat_map(line).collect()
+}
+
+/// The length of the report on a plan sheet.
+pub fn length_for(sheet: &[u8]) -> usize {
+    count_at(sheet, 1) * BOOKING_LINE + count_at(sheet, 9) * WAY_LINE + TOTAL_LINE
 }
 
 pub fn journals(endless: &Endless) -> Vec<Vec<u8>> {
@@ -37,9 +55,9 @@ fn time_settle(sheet: &[u8], fees: &[u8], journal: &[u8]) -> Times<2> {
 
 pub fn print_settlements(sheets: &[Endless]) {
     println!("## Settlement\n");
-    println!("In nanoseconds, with the journals of restart, and a fee sheet with fees of one to six digits. A further line:");
+    println!("In nanoseconds, with the journals of restart, and a fee sheet with quotes of one to six digits, each third greatest");
     println!(
-        "what the call took longer than the one in the row above, shared among the lines that came to it.\n"
+        "blank. A further line: what the call took longer than the one in the row above, shared among the lines that came to it.\n"
     );
     restart::print_head();
     for endless in sheets {

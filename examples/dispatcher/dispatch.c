@@ -594,8 +594,10 @@ static bool settle_at_end(struct run *run)
         return false;
     tally->bills += bill.length > 0;
     tally->unbilled += bill.length == 0;
-    tally->billed += bill.total;
-    tally->highest_bill = bill.total > tally->highest_bill ? bill.total : tally->highest_bill;
+    tally->billed.least += bill.total.least;
+    tally->billed.greatest += bill.total.greatest;
+    if (bill.total.greatest > tally->highest_bill.greatest)
+        tally->highest_bill = bill.total;
     if (run->task->log != NULL)
         bill_write(&bill, run->journal, run->task->log);
     return true;

@@ -18,7 +18,7 @@ struct tally {
     unsigned long blocks, most_at_once; /* replies that one block took */
     unsigned most_matters;              /* open at one desk at one time */
     unsigned long bills, unbilled;      /* unbilled: the journal is too long */
-    uint64_t billed, highest_bill;
+    struct quote billed, highest_bill;  /* the highest at the greatest fees */
 };
 
 struct task {

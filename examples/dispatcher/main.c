@@ -177,10 +177,10 @@ static enum status load_fees(struct fees *fees, const struct plan *plan, const c
         fprintf(stderr, "dispatcher: %s: the fee sheet can't be read: %s\n", path, strerror(errno));
         return NO_FEES;
     }
-    uint32_t line = fees_parse(fees, plan);
-    if (line == 0)
+    struct wrong_fee wrong = fees_parse(fees, plan);
+    if (wrong.refusal == CAMPAIGN_NO_REFUSAL)
         return DONE;
-    const char *fault = bill_refused(&bill, fees, plan, line);
+    const char *fault = bill_refused(&bill, fees, plan, wrong);
     if (fault != NULL) {
         fprintf(stderr, "dispatcher: FAULT: %s: %s\n", path, fault);
         return FAULT;
@@ -205,7 +205,8 @@ static void write_summary(const struct plan *plan, const struct tally *t, const 
     if (t->blocks > 0)
         printf("  %lu blocks; most replies taken at once: %lu\n", t->blocks, t->most_at_once);
     if (t->bills > 0)
-        printf("  %lu bills, together %" PRIu64 ", the highest %" PRIu64 "\n", t->bills, t->billed, t->highest_bill);
+        printf("  %lu bills, together %" PRIu64 " to %" PRIu64 ", the highest %" PRIu64 " to %" PRIu64 "\n", t->bills,
+               t->billed.least, t->billed.greatest, t->highest_bill.least, t->highest_bill.greatest);
     if (t->unbilled > 0)
         printf("  %lu journals were too long for a bill\n", t->unbilled);
 }

@@ -25,7 +25,8 @@ static const char *before_place(uint32_t refusal)
     case CAMPAIGN_WAY_TWICE: return "a way equals an earlier one: way";
     case CAMPAIGN_MISFIT: return "the reply fits nothing that was asked: booking";
     case CAMPAIGN_WRONG_FEE:
-        return "the fee sheet has a line that is malformed, out of sequence, missing or one too many: line";
+        return "the fee sheet has a line that is malformed, without a least fee, out of sequence, missing or one too "
+               "many: line";
     default: return NULL;
     }
 }
@@ -34,6 +35,12 @@ static void write_wrong_line(FILE *out, uint32_t place)
 {
     fprintf(out, "the journal is damaged or belongs to another sheet: line %u%s", (unsigned) place,
             place == 65535 ? " or one after it" : "");
+}
+
+static void write_crossed_quote(FILE *out, uint32_t place)
+{
+    fprintf(out, "a quote of booking %u has its least fee above its greatest: line %u of the fee sheet", (unsigned) place,
+            (unsigned) place);
 }
 
 static void write_stranding(FILE *out, uint32_t place)
@@ -54,6 +61,8 @@ void words_write_refusal(FILE *out, uint32_t refusal, uint32_t place)
         write_stranding(out, place);
     else if (refusal == CAMPAIGN_WRONG_LINE)
         write_wrong_line(out, place);
+    else if (refusal == CAMPAIGN_CROSSED_QUOTE)
+        write_crossed_quote(out, place);
     else if (refusal == CAMPAIGN_SHORT_BUFFER)
         fputs("a buffer is too short for the text", out);
     else if (refusal == CAMPAIGN_UNSOUND)

@@ -27,15 +27,17 @@ FIXED(CAMPAIGN_WAY_NOT_CLOSED == 5 && CAMPAIGN_UNUSED == 6);
 FIXED(CAMPAIGN_WAY_TWICE == 7 && CAMPAIGN_STRANDING == 8);
 FIXED(CAMPAIGN_MISFIT == 9 && CAMPAIGN_SHORT_BUFFER == 10 && CAMPAIGN_UNSOUND == 11);
 FIXED(CAMPAIGN_WRONG_LINE == 12 && CAMPAIGN_WRONG_FEE == 13 && CAMPAIGN_LONG_JOURNAL == 14);
+FIXED(CAMPAIGN_CROSSED_QUOTE == 15);
 
 FIXED(CAMPAIGN_CONFIRMED == 89 && CAMPAIGN_DECLINED == 78);
 FIXED(CAMPAIGN_RETURNED == 71 && CAMPAIGN_KEPT == 75);
 FIXED(CAMPAIGN_REQUEST_LETTER == 81 && CAMPAIGN_RETURN_LETTER == 85);
 FIXED(CAMPAIGN_BLOCK_LINE_LENGTH == 6 && CAMPAIGN_JOURNAL_LINE_LENGTH == 6);
 
-FIXED(CAMPAIGN_FEE_LINE_LENGTH == 1 + 4 + 6 + 6 + 1);
-FIXED(CAMPAIGN_SETTLED_LINE_LENGTH == 1 + 4 + 6 + 6 + 12 + 1 && CAMPAIGN_TOTAL_LINE_LENGTH == 1 + 12 + 1);
-FIXED(CAMPAIGN_LONGEST_REPORT == 64 * 30 + 14 && CAMPAIGN_MOST_SETTLED_LINES == 10000);
+FIXED(CAMPAIGN_FEE_LINE_LENGTH == 1 + 4 + 6 + 6 + 6 + 6 + 1);
+FIXED(CAMPAIGN_SETTLED_LINE_LENGTH == 1 + 4 + 6 + 6 + 12 + 12 + 1);
+FIXED(CAMPAIGN_WAY_LINE_LENGTH == 1 + 4 + 12 + 12 + 1 && CAMPAIGN_TOTAL_LINE_LENGTH == 1 + 12 + 12 + 1);
+FIXED(CAMPAIGN_LONGEST_REPORT == 64 * 42 + 16 * 30 + 26 && CAMPAIGN_MOST_SETTLED_LINES == 10000);
 
 static uint32_t check(const char *sheet)
 {
@@ -170,6 +172,8 @@ static void restarts_that_do_not(void)
     restart(tanker, "q   1\n", 65, 0, CAMPAIGN_WRONG_LINE, 1, NULL);
     restart(tanker, "Q   1\nY0001\n", 65, 0, CAMPAIGN_WRONG_LINE, 2, NULL);
     restart(tanker, "Q1   \n", 65, 0, CAMPAIGN_WRONG_LINE, 1, NULL);
+    restart(tanker, "Q    \n", 65, 0, CAMPAIGN_WRONG_LINE, 1, NULL);                /* a blank is no number */
+    restart(tanker, "Q   1\nY    \n", 65, 0, CAMPAIGN_WRONG_LINE, 2, NULL);
     restart(tanker, "Q   1\rY", 65, 0, CAMPAIGN_WRONG_LINE, 1, NULL);
     restart(tanker, "Q   2\n", 64, 0, CAMPAIGN_UNSOUND, 0, NULL);
     restart(tanker, "", 0, 0, CAMPAIGN_UNSOUND, 0, NULL);
@@ -373,6 +377,7 @@ static void kepts(void)
     kept("a wrong line", 0, CAMPAIGN_WRONG_LINE, 3, 0);
     kept("a wrong fee line", 0, CAMPAIGN_WRONG_FEE, 3, 0);
     kept("a journal too long to be settled", 0, CAMPAIGN_LONG_JOURNAL, 0, 0);
+    kept("a crossed quote", 0, CAMPAIGN_CROSSED_QUOTE, 3, 0);
     kept("a request", CAMPAIGN_REQUEST, 0, 3, 0);
     kept("a return", CAMPAIGN_RETURN, 0, 3, 0);
     kept("a wait", CAMPAIGN_WAIT, 0, 0, 0);
@@ -564,6 +569,23 @@ static void restarts_with_desks(void)
             CAMPAIGN_ACCEPTED, 0, 0, "\2\2\4\4\3");
 }
 
+/* Only a fee sheet may have a blank for a number: each number of a sheet in turn, four columns up to its last digit. */
+static void blanks_on_a_sheet(void)
+{
+    char sheet[sizeof tanker];
+    uint32_t line = 1, numbers = 0;
+    for (size_t at = 0; tanker[at] != '\0'; at++) {
+        line += tanker[at] == '\n';
+        if (strchr("0123456789", tanker[at]) == NULL || strchr(" \n", tanker[at + 1]) == NULL)
+            continue;
+        memcpy(sheet, tanker, sizeof sheet);
+        memset(sheet + at - 3, ' ', 4);
+        expect("a blank on a sheet", check(sheet), 0, CAMPAIGN_FORM, line);
+        numbers++;
+    }
+    expect("numbers of a sheet", numbers, 0, 0, 4 + 4 * 2 + 3 * 2 + 2 * 4);
+}
+
 /* The longest text of the form: its ways are all equal, so it is refused with 7, once it has been read to its end. */
 static void longest_sheet(void)
 {
@@ -592,6 +614,7 @@ int main(void)
     checks();
     limits_on_sheets();
     desks_on_sheets();
+    blanks_on_a_sheet();
     longest_sheet();
     campaigns_with_desks();
     states_with_desks();

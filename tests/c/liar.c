@@ -244,12 +244,40 @@ static unsigned long lines_of(uint8_t letter, unsigned long booking, const uint8
     return count;
 }
 
-/* Lines of a report are changed; columns 5 and 11 begin the counts, 17 the amount, and in the last line 1 the total. */
-static void bill_wrongly(uint8_t *report, size_t lines, const uint8_t *journal, size_t journal_len)
+static void exchange(uint8_t *one, uint8_t *other, size_t count)
+{
+    uint8_t kept[CAMPAIGN_WAY_LINE_LENGTH];
+    memcpy(kept, one, count);
+    memcpy(one, other, count);
+    memcpy(other, kept, count);
+}
+
+/* How many bookings and ways a sheet has, by its head. */
+struct size {
+    size_t bookings, ways;
+};
+
+static struct size size_of(const uint8_t *sheet)
+{
+    return (struct size) {number_in(sheet + 1, 4), number_in(sheet + 9, 4)};
+}
+
+static uint8_t *way_line(uint8_t *report, struct size size, size_t way)
+{
+    return report + size.bookings * CAMPAIGN_SETTLED_LINE_LENGTH + (way - 1) * CAMPAIGN_WAY_LINE_LENGTH;
+}
+
+static uint32_t length_of(struct size size)
+{
+    return (uint32_t) (size.bookings * CAMPAIGN_SETTLED_LINE_LENGTH + size.ways * CAMPAIGN_WAY_LINE_LENGTH
+                       + CAMPAIGN_TOTAL_LINE_LENGTH);
+}
+
+/* Columns 5 and 11 begin the counts, 17 and 29 the amounts. */
+static void bill_bookings_wrongly(uint8_t *report, struct size size, const uint8_t *journal, size_t journal_len)
 {
     const size_t line = CAMPAIGN_SETTLED_LINE_LENGTH;
-    uint8_t amount[12];
-    for (size_t i = 0; i < lines; i++) {
+    for (size_t i = 0; i < size.bookings; i++) {
         uint8_t *at = report + i * line;
         if (lie_is("bills a confirmation too many"))
             add_to(at + 5, 6, 1);
@@ -261,30 +289,187 @@ static void bill_wrongly(uint8_t *report, size_t lines, const uint8_t *journal, 
             add_to(at + 5, 6, (int) lines_of(CAMPAIGN_DECLINED, i + 1, journal, journal_len));
         if (lie_is("bills an amount too high"))
             add_to(at + 17, 12, 1);
+        if (lie_is("bills a greatest amount too high"))
+            add_to(at + 29, 12, 1);
+        if (lie_is("swaps the amounts of a booking"))
+            exchange(at + 17, at + 29, 12);
+        if (lie_is("bills each booking at the least fees alone"))
+            memcpy(at + 29, at + 17, 12);
     }
-    if (lie_is("bills the last booking at the first")) {
-        memcpy(amount, report + 17, sizeof amount);
-        memcpy(report + 17, report + (lines - 1) * line + 17, sizeof amount);
-        memcpy(report + (lines - 1) * line + 17, amount, sizeof amount);
-    }
-    if (lie_is("bills another total"))
-        add_to(report + lines * line + 1, 12, 1);
-    if (lie_is("writes the total to the left"))
-        memmove(report + lines * line + 1, report + lines * line + 2, 11);
-    if (lie_is("writes behind the bill"))
-        report[lines * line + CAMPAIGN_TOTAL_LINE_LENGTH] = 0;
+    if (lie_is("bills the last booking at the first"))
+        exchange(report + 17, report + (size.bookings - 1) * line + 17, 24);
 }
 
-/* The fee for a confirmation in place of that for a return, and the other way round. */
-static const uint8_t *fees_crosswise(const uint8_t *fees, size_t fees_len)
+/* Column 1 begins the way's number, 5 and 17 the sums; in the last line 1 and 13 the totals. */
+static void bill_ways_wrongly(uint8_t *report, struct size size)
 {
-    static uint8_t crosswise[CAMPAIGN_MOST_BOOKINGS * CAMPAIGN_FEE_LINE_LENGTH + 1];
-    memcpy(crosswise, fees, fees_len);
-    for (size_t at = 0; at + CAMPAIGN_FEE_LINE_LENGTH <= fees_len; at += CAMPAIGN_FEE_LINE_LENGTH) {
-        memcpy(crosswise + at + 5, fees + at + 11, 6);
-        memcpy(crosswise + at + 11, fees + at + 5, 6);
+    const uint8_t *total = way_line(report, size, size.ways + 1);
+    for (size_t way = 1; way <= size.ways; way++) {
+        uint8_t *at = way_line(report, size, way);
+        if (lie_is("swaps the sums of a way"))
+            exchange(at + 5, at + 17, 12);
+        if (lie_is("sums up a way one too high"))
+            add_to(at + 5, 12, 1);
+        if (lie_is("sums up a way one too low at the greatest fees"))
+            add_to(at + 17, 12, -1);
+        if (lie_is("sums up a way at the least fees alone"))
+            memcpy(at + 17, at + 5, 12);
+        if (lie_is("sums up for a way what was done"))
+            memcpy(at + 5, total + 1, 24);
+        if (lie_is("counts the ways from 0"))
+            write_number(at + 1, 4, way - 1);
     }
-    return crosswise;
+    if (lie_is("gives a way the sums of another"))
+        exchange(way_line(report, size, 1) + 5, way_line(report, size, size.ways) + 5, 24);
+    if (lie_is("writes the ways in another order"))
+        exchange(way_line(report, size, 1), way_line(report, size, size.ways), CAMPAIGN_WAY_LINE_LENGTH);
+}
+
+static void bill_total_wrongly(uint8_t *report, struct size size)
+{
+    uint8_t *total = way_line(report, size, size.ways + 1);
+    if (lie_is("bills another total"))
+        add_to(total + 1, 12, 1);
+    if (lie_is("bills another greatest total"))
+        add_to(total + 13, 12, 1);
+    if (lie_is("swaps the totals"))
+        exchange(total + 1, total + 13, 12);
+    if (lie_is("bills the least total twice"))
+        memcpy(total + 13, total + 1, 12);
+    if (lie_is("adds the ways to the total"))
+        for (size_t way = 1; way <= size.ways; way++)
+            add_to(total + 1, 12, (int) number_in(way_line(report, size, way) + 5, 12));
+    if (lie_is("writes the total to the left"))
+        memmove(total + 1, total + 2, 23);
+    if (lie_is("writes behind the bill"))
+        total[CAMPAIGN_TOTAL_LINE_LENGTH] = 0;
+}
+
+/* What follows the lines that are moved is as it was before the call. */
+static uint32_t bill_in_other_lines(uint8_t *report, struct size size, const uint8_t *before, uint32_t answer)
+{
+    const size_t line = CAMPAIGN_WAY_LINE_LENGTH, last = CAMPAIGN_TOTAL_LINE_LENGTH;
+    uint8_t *first = way_line(report, size, 1), *total = way_line(report, size, size.ways + 1);
+    uint8_t kept[CAMPAIGN_TOTAL_LINE_LENGTH];
+    memcpy(kept, total, last);
+    if (lie_is("writes the ways after the total")) {
+        memmove(first + last, first, size.ways * line);
+        memcpy(first, kept, last);
+    }
+    if (lie_is("leaves out the last way") || lie_is("leaves out the ways")) {
+        size_t ways = lie_is("leaves out the ways") ? size.ways : 1;
+        uint8_t *to = total - ways * line;
+        memcpy(to, kept, last);
+        memcpy(to + last, before + (to + last - report), ways * line);
+        return answer - (uint32_t) (ways * line);
+    }
+    return answer;
+}
+
+static uint32_t bill_wrongly(uint8_t *report, struct size size, const uint8_t *journal, size_t journal_len,
+                             const uint8_t *before, uint32_t answer)
+{
+    bill_bookings_wrongly(report, size, journal, journal_len);
+    bill_ways_wrongly(report, size);
+    bill_total_wrongly(report, size);
+    return bill_in_other_lines(report, size, before, answer);
+}
+
+/* Fee sheets. A line has the two quotes at columns 5 and 17, each a least and a greatest fee. */
+
+enum { CONFIRMATION = 5, GIVING_BACK = 17, GREATEST = 6 };
+
+static const char blank[] = "      ";
+
+static int is_blank(const uint8_t *columns)
+{
+    return memcmp(columns, blank, 6) == 0;
+}
+
+static int crosses(const uint8_t *quote)
+{
+    return !is_blank(quote + GREATEST) && number_in(quote, 6) > number_in(quote + GREATEST, 6);
+}
+
+static int has_crossed(const uint8_t *line)
+{
+    return crosses(line + CONFIRMATION) || crosses(line + GIVING_BACK);
+}
+
+static int has_blank(const uint8_t *line)
+{
+    return is_blank(line + CONFIRMATION + GREATEST) || is_blank(line + GIVING_BACK + GREATEST);
+}
+
+static void change_quote(uint8_t *quote)
+{
+    uint8_t *greatest = quote + GREATEST;
+    if (lie_is("bills the greatest at the least fees") || (lie_is("looks for crossed quotes last") && crosses(quote)))
+        memcpy(greatest, blank, 6);
+    if (lie_is("takes a blank for zero") && is_blank(greatest))
+        write_number(greatest, 6, 0);
+    if (lie_is("takes a blank for as much as there can be") && is_blank(greatest))
+        write_number(greatest, 6, 999999);
+    if (lie_is("takes a crossed quote") && crosses(quote))
+        exchange(quote, greatest, 6);
+}
+
+/* The fee sheet as a library reads it that is wrong about fees. */
+static const uint8_t *fees_read_wrongly(const uint8_t *fees, size_t fees_len)
+{
+    static uint8_t changed[CAMPAIGN_MOST_BOOKINGS * CAMPAIGN_FEE_LINE_LENGTH + 1];
+    memcpy(changed, fees, fees_len);
+    for (size_t at = 0; at + CAMPAIGN_FEE_LINE_LENGTH <= fees_len; at += CAMPAIGN_FEE_LINE_LENGTH) {
+        uint8_t *line = changed + at;
+        change_quote(line + CONFIRMATION);
+        change_quote(line + GIVING_BACK);
+        if (lie_is("bills at the other fee"))
+            exchange(line + CONFIRMATION, line + GIVING_BACK, 12);
+    }
+    return changed;
+}
+
+/* The first line that has it; 0 if none has. */
+static uint32_t first_with(int (*has)(const uint8_t *line), const uint8_t *fees, size_t fees_len)
+{
+    const size_t line = CAMPAIGN_FEE_LINE_LENGTH;
+    for (size_t at = 0; at + line <= fees_len; at += line)
+        if (has(fees + at))
+            return (uint32_t) (at / line + 1);
+    return 0;
+}
+
+static uint32_t refused_for(uint32_t refusal, uint32_t place)
+{
+    return refusal << 16 | place;
+}
+
+static uint32_t judge_fees_wrongly(const uint8_t *fees, size_t fees_len, struct size size, uint8_t *report, uint32_t answer)
+{
+    uint32_t refusal = campaign_refusal_of(answer), place = campaign_place_of(answer);
+    int wrong = refusal == CAMPAIGN_WRONG_FEE, crossed = refusal == CAMPAIGN_CROSSED_QUOTE;
+    uint32_t crossed_line = first_with(has_crossed, fees, fees_len), blank_line = first_with(has_blank, fees, fees_len);
+    if (lie_is("refuses a right fee sheet") && refusal == 0)
+        return refused_for(CAMPAIGN_WRONG_FEE, 1);
+    if (lie_is("refuses a blank") && refusal == 0 && blank_line > 0)
+        return refused_for(CAMPAIGN_WRONG_FEE, blank_line);
+    if (lie_is("takes a wrong fee sheet") && wrong)
+        return packed(CAMPAIGN_ACCEPTED, length_of(size));
+    if (lie_is("names another line of the fees") && (wrong || crossed))
+        return answer + 1;
+    if (lie_is("calls wrong fees a wrong journal") && (wrong || crossed))
+        return refused_for(CAMPAIGN_WRONG_LINE, place);
+    if (lie_is("writes though it refuses the fees") && (wrong || crossed))
+        report[0] = 'S';
+    if (lie_is("calls a crossed quote misformed") && crossed)
+        return refused_for(CAMPAIGN_WRONG_FEE, place);
+    if (lie_is("calls a misformed line crossed") && wrong)
+        return refused_for(CAMPAIGN_CROSSED_QUOTE, place);
+    if (lie_is("looks for crossed quotes first") && wrong && crossed_line > 0)
+        return refused_for(CAMPAIGN_CROSSED_QUOTE, crossed_line);
+    if (lie_is("looks for crossed quotes first on a line") && wrong && crossed_line == place)
+        return refused_for(CAMPAIGN_CROSSED_QUOTE, place);
+    return answer;
 }
 
 uint32_t __wrap_campaign_settle(const uint8_t *sheet, size_t sheet_len, const uint8_t *fees, size_t fees_len,
@@ -292,30 +477,23 @@ uint32_t __wrap_campaign_settle(const uint8_t *sheet, size_t sheet_len, const ui
 {
     const size_t line = CAMPAIGN_JOURNAL_LINE_LENGTH;
     size_t whole = journal_len - journal_len % line;
-    uint32_t length = 30 * (uint32_t) number_in(sheet + 1, 4) + 14;
+    struct size size = size_of(sheet);
+    uint8_t before[CAMPAIGN_LONGEST_REPORT];
+    memcpy(before, report, report_len);
     if (lie_is("bills without the last line") && whole > 0)
         journal_len = whole - line;
     if (lie_is("bills the first lines of a long journal") && whole / line > CAMPAIGN_MOST_SETTLED_LINES)
         journal_len = CAMPAIGN_MOST_SETTLED_LINES * line;
-    if (lie_is("bills at the other fee"))
-        fees = fees_crosswise(fees, fees_len);
-    uint32_t answer = __real_campaign_settle(sheet, sheet_len, fees, fees_len, journal, journal_len, report, report_len);
+    uint32_t answer = __real_campaign_settle(sheet, sheet_len, fees_read_wrongly(fees, fees_len), fees_len, journal,
+                                             journal_len, report, report_len);
     uint32_t refusal = campaign_refusal_of(answer);
     if (refusal == 0)
-        bill_wrongly(report, length / 30, journal, journal_len);
+        answer = bill_wrongly(report, size, journal, journal_len, before, answer);
     if (lie_is("says a bill too long") && refusal == 0)
         return answer + 1;
-    if (lie_is("refuses a right fee sheet") && refusal == 0)
-        return (uint32_t) CAMPAIGN_WRONG_FEE << 16 | 1;
-    if (lie_is("takes a wrong fee sheet") && refusal == CAMPAIGN_WRONG_FEE)
-        return packed(CAMPAIGN_ACCEPTED, length);
-    if (lie_is("names another line of the fees") && refusal == CAMPAIGN_WRONG_FEE)
-        return answer + 1;
-    if (lie_is("calls wrong fees a wrong journal") && refusal == CAMPAIGN_WRONG_FEE)
-        return (uint32_t) CAMPAIGN_WRONG_LINE << 16 | campaign_place_of(answer);
-    if (lie_is("writes though it refuses the fees") && refusal == CAMPAIGN_WRONG_FEE)
-        report[0] = 'S';
+    if (lie_is("says the length without the ways") && refusal == 0)
+        return answer - (uint32_t) (size.ways * CAMPAIGN_WAY_LINE_LENGTH);
     if (lie_is("calls a long journal wrong") && refusal == CAMPAIGN_LONG_JOURNAL)
-        return (uint32_t) CAMPAIGN_WRONG_LINE << 16 | CAMPAIGN_MOST_SETTLED_LINES;
-    return answer;
+        return refused_for(CAMPAIGN_WRONG_LINE, CAMPAIGN_MOST_SETTLED_LINES);
+    return judge_fees_wrongly(fees, fees_len, size, report, answer);
 }

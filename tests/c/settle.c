@@ -104,84 +104,192 @@ static void settled(const char *what, const char *sheet, const char *fees, const
 static const char tanker[] = "P   4   3   2  64\nB   1 C   1\nB   2 P   1\nB   3 C   1\nB   4 R   1\n"
                              "L   1   2\nL   2   3\nL   2   4\nA   3   1   2   3\nA   3   1   2   4\n";
 static const char twin[] = "P   3   2   1  64\nB   1 C   1\nB   2 P   1\nB   3 C   1\nL   1   2\nL   2   3\nA   3   1   2   3\n";
-static const char tanker_fees[] = "F   1  1500   300\nF   2 40000     0\nF   3  9000   450\nF   4   700     0\n";
+static const char tanker_fees[] = "F   1  1500         300   450\nF   2 40000 60000     0     0\n"
+                                  "F   3  9000         450      \nF   4   700   900     0      \n";
 
 #define TO_CHASE "Q   1\nY   1\nQ   2\nY   2\nQ   3\n"
-#define NOTHING(b) "S   " b "     0     0           0\n"
+#define NOTHING(b) "S   " b "     0     0           0           0\n"
+#define NO_TOTAL "T           0           0\n"
+/* What the two ways cost by these fees, whatever was done. */
+#define TANKER_WAYS "M   1       50500       70500\nM   2       42200       62400\n"
 
 static void tanker_bills(void)
 {
     settled("flown by way 2", tanker, tanker_fees, TO_CHASE "N   3\nQ   4\nN   4\nQ   4\nY   4\n",
-            "S   1     1     0        1500\nS   2     1     0       40000\n" NOTHING("3")
-            "S   4     1     0         700\nT       42200\n");
+            "S   1     1     0        1500        1500\nS   2     1     0       40000       60000\n" NOTHING("3")
+            "S   4     1     0         700         900\n" TANKER_WAYS "T       42200       62400\n");
     settled("flown by way 1", tanker, tanker_fees, TO_CHASE "Y   3\n",
-            "S   1     1     0        1500\nS   2     1     0       40000\nS   3     1     0        9000\n" NOTHING("4")
-            "T       50500\n");
+            "S   1     1     0        1500        1500\nS   2     1     0       40000       60000\n"
+            "S   3     1     0        9000        9000\n" NOTHING("4") TANKER_WAYS "T       50500       70500\n");
     settled("not ended", tanker, tanker_fees, "Q   1\nY   1\nQ   2\n",
-            "S   1     1     0        1500\n" NOTHING("2") NOTHING("3") NOTHING("4") "T        1500\n");
+            "S   1     1     0        1500        1500\n" NOTHING("2") NOTHING("3") NOTHING("4") TANKER_WAYS
+            "T        1500        1500\n");
     settled("a tail", tanker, tanker_fees, "Q   1\nY   1\nQ   2\nY   2",
-            "S   1     1     0        1500\n" NOTHING("2") NOTHING("3") NOTHING("4") "T        1500\n");
+            "S   1     1     0        1500        1500\n" NOTHING("2") NOTHING("3") NOTHING("4") TANKER_WAYS
+            "T        1500        1500\n");
     settled("a tail of any bytes", tanker, tanker_fees, "Q   1\nXXXXX",
-            NOTHING("1") NOTHING("2") NOTHING("3") NOTHING("4") "T           0\n");
-    settled("no journal", tanker, tanker_fees, "",
-            NOTHING("1") NOTHING("2") NOTHING("3") NOTHING("4") "T           0\n");
+            NOTHING("1") NOTHING("2") NOTHING("3") NOTHING("4") TANKER_WAYS NO_TOTAL);
+    settled("no journal", tanker, tanker_fees, "", NOTHING("1") NOTHING("2") NOTHING("3") NOTHING("4") TANKER_WAYS NO_TOTAL);
     settled("called off at once", tanker, tanker_fees, "Q   1\nN   1\n",
-            NOTHING("1") NOTHING("2") NOTHING("3") NOTHING("4") "T           0\n");
-    settled("no fees", tanker, "F   1     0     0\nF   2     0     0\nF   3     0     0\nF   4     0     0\n",
+            NOTHING("1") NOTHING("2") NOTHING("3") NOTHING("4") TANKER_WAYS NO_TOTAL);
+    settled("no fees", tanker,
+            "F   1     0           0      \nF   2     0     0     0     0\n"
+            "F   3     0           0     0\nF   4     0     0     0      \n",
             TO_CHASE "Y   3\n",
-            "S   1     1     0           0\nS   2     1     0           0\nS   3     1     0           0\n" NOTHING("4")
-            "T           0\n");
+            "S   1     1     0           0           0\nS   2     1     0           0           0\n"
+            "S   3     1     0           0           0\n" NOTHING("4")
+            "M   1           0           0\nM   2           0           0\n" NO_TOTAL);
+}
+
+/* The header's own example. */
+static void bill_of_the_header(void)
+{
+    settled("the header's example", tanker,
+            "F   1   150   180    20    35\nF   2  4000  6000     0     0\n"
+            "F   3   900          40    45\nF   4    70           0     0\n",
+            "Q   1\nY   1\nQ   2\nN   2\nU   1\nG   1\n",
+            "S   1     1     1         170         215\n" NOTHING("2") NOTHING("3") NOTHING("4")
+            "M   1        5050        7080\nM   2        4220        6250\nT         170         215\n");
 }
 
 static const char pair[] = "P   2   0   1  64\nB   1 C   1\nB   2 C   1\nA   2   1   2\n";
-static const char pair_fees[] = "F   1   150    20\nF   2  4000     7\n";
+
+#define FEE_1 "F   1   150   180    20    35\n"
+#define FEE_2 "F   2  4000           7     9\n"
+static const char pair_fees[] = FEE_1 FEE_2;
 
 #define TO_RETURN "Q   1\nQ   2\nY   1\nN   2\nU   1\n"
+#define PAIR_WAY "M   1        4150        4180\n"
 
 /* A return that fails is no return. */
 static void bills_with_returns(void)
 {
-    settled("a return is open", pair, pair_fees, TO_RETURN, "S   1     1     0         150\n" NOTHING("2") "T         150\n");
+    settled("a return is open", pair, pair_fees, TO_RETURN,
+            "S   1     1     0         150         180\n" NOTHING("2") PAIR_WAY "T         150         180\n");
     settled("kept", pair, pair_fees, TO_RETURN "K   1\nU   1\nK   1\n",
-            "S   1     1     0         150\n" NOTHING("2") "T         150\n");
-    settled("returned", pair, pair_fees, TO_RETURN "G   1\n", "S   1     1     1         170\n" NOTHING("2") "T         170\n");
+            "S   1     1     0         150         180\n" NOTHING("2") PAIR_WAY "T         150         180\n");
+    settled("returned", pair, pair_fees, TO_RETURN "G   1\n",
+            "S   1     1     1         170         215\n" NOTHING("2") PAIR_WAY "T         170         215\n");
     settled("kept, then returned", pair, pair_fees, TO_RETURN "K   1\nU   1\nG   1\n",
-            "S   1     1     1         170\n" NOTHING("2") "T         170\n");
-    settled("the fee for a return alone", pair, "F   1     0999999\nF   2     0     0\n", TO_RETURN "G   1\n",
-            "S   1     1     1      999999\n" NOTHING("2") "T      999999\n");
+            "S   1     1     1         170         215\n" NOTHING("2") PAIR_WAY "T         170         215\n");
+    settled("the fee for a return alone", pair, "F   1     0     0     0999999\nF   2     0           0      \n",
+            TO_RETURN "G   1\n", "S   1     1     1           0      999999\n" NOTHING("2")
+            "M   1           0           0\nT           0      999999\n");
 }
 
-/* Booking 2 is confirmed on way 1, goes back on way 2, and is confirmed again on way 3. */
+/* Each greatest fee in turn is blank, and means what its least says: 999,999 too, and zero. */
+static void bills_with_blanks(void)
+{
+    settled("a blank for a confirmation", pair, "F   1   150          20    35\nF   2     0     1     0     1\n",
+            TO_RETURN "G   1\n", "S   1     1     1         170         185\n" NOTHING("2")
+            "M   1         150         151\nT         170         185\n");
+    settled("a blank for a return", pair, "F   1   150   180    20      \nF   2     0     1     0     1\n",
+            TO_RETURN "G   1\n", "S   1     1     1         170         200\n" NOTHING("2")
+            "M   1         150         181\nT         170         200\n");
+    settled("blanks alone", pair, "F   1   150          20      \nF   2999999      999999      \n", TO_RETURN "G   1\n",
+            "S   1     1     1         170         170\n" NOTHING("2") "M   1     1000149     1000149\n"
+            "T         170         170\n");
+    settled("the same twice, and no blank", pair, "F   1   150   150    20    20\nF   2999999999999999999999999\n",
+            TO_RETURN "G   1\n", "S   1     1     1         170         170\n" NOTHING("2")
+            "M   1     1000149     1000149\nT         170         170\n");
+    settled("a blank after zero", pair, "F   1     0           0      \nF   2     0999999     0999999\n", TO_RETURN "G   1\n",
+            "S   1     1     1           0           0\n" NOTHING("2") "M   1           0      999999\n" NO_TOTAL);
+    settled("the widest quotes", pair, "F   1     0999999     0999999\nF   2     0999999     0999999\n",
+            TO_RETURN "G   1\n", "S   1     1     1           0     1999998\n" NOTHING("2")
+            "M   1           0     1999998\nT           0     1999998\n");
+}
+
+/* Booking 2 is confirmed on way 1, goes back on way 2, and is confirmed again on way 3. The ways count it once each. */
 static void bill_with_a_booking_twice(void)
 {
     settled("confirmed twice", "P   4   0   3  64\nB   1 C   1\nB   2 C   1\nB   3 C   1\nB   4 C   1\n"
             "A   2   1   2\nA   2   3   4\nA   2   2   4\n",
-            "F   1     1     2\nF   2999999999998\nF   3     5     6\nF   4    80    90\n",
+            "F   1     1     5     2      \nF   2999999      999998999999\n"
+            "F   3     5     6     6     7\nF   4    80          90      \n",
             "Q   1\nQ   2\nY   2\nN   1\nU   2\nG   2\nQ   3\nQ   4\nY   4\nN   3\nQ   2\nY   2\n",
-            NOTHING("1") "S   2     2     1     2999996\n" NOTHING("3") "S   4     1     0          80\nT     3000076\n");
+            NOTHING("1") "S   2     2     1     2999996     2999997\n" NOTHING("3")
+            "S   4     1     0          80          80\n"
+            "M   1     1000000     1000004\nM   2          85          86\nM   3     1000079     1000079\n"
+            "T     3000076     3000077\n");
 }
 
-/* 64 bookings, each confirmed at 999,999: the longest report, and a total of eight digits. */
+/* Large sheets. */
+
+/* So many bookings of kind D; way 1 has all of them, way 2 lacks the first, way 3 the second and so on. */
+static void write_sheet(char *sheet, int bookings, int ways)
+{
+    sheet += sprintf(sheet, "P%4d   0%4d  64\n", bookings, ways);
+    for (int b = 1; b <= bookings; b++)
+        sheet += sprintf(sheet, "B%4d D   1\n", b);
+    for (int way = 1; way <= ways; way++) {
+        sheet += sprintf(sheet, "A%4d", way == 1 ? bookings : bookings - 1);
+        for (int b = 1; b <= bookings; b++)
+            sheet += b == way - 1 ? 0 : sprintf(sheet, "%4d", b);
+        sheet += sprintf(sheet, "\n");
+    }
+}
+
+static char sheet_text[8192], fees_text[64 * 30 + 2], report_text[CAMPAIGN_LONGEST_REPORT + 1];
+
+/* Nothing was done, at 10 to 11 for each confirmation. */
+static void report_of_length(int bookings, int ways, uint32_t length)
+{
+    char *at = report_text;
+    write_sheet(sheet_text, bookings, ways);
+    for (int b = 1; b <= bookings; b++) {
+        sprintf(fees_text + (b - 1) * 30, "F%4d    10    11     3      \n", b);
+        at += sprintf(at, "S%4d     0     0           0           0\n", b);
+    }
+    for (int way = 1; way <= ways; way++) {
+        int size = way == 1 ? bookings : bookings - 1;
+        at += sprintf(at, "M%4d%12d%12d\n", way, 10 * size, 11 * size);
+    }
+    strcpy(at, NO_TOTAL);
+    expect("the length of a report", (uint32_t) strlen(report_text), 0, 0, length);
+    settled("a report by bookings and ways", sheet_text, fees_text, "", report_text);
+    refused("a report with a byte too little room", sheet_text, fees_text, "", length - 1, CAMPAIGN_SHORT_BUFFER, 0);
+    refused("a report without its last line", sheet_text, fees_text, "", length - 26, CAMPAIGN_SHORT_BUFFER, 0);
+    refused("a report without its ways", sheet_text, fees_text, "", (size_t) bookings * 42 + 26, CAMPAIGN_SHORT_BUFFER, 0);
+}
+
+static void report_lengths(void)
+{
+    report_of_length(1, 1, 98);
+    report_of_length(2, 1, 140);
+    report_of_length(2, 2, 170);
+    report_of_length(2, 3, 200);
+    report_of_length(9, 10, 704);
+    report_of_length(15, 16, 1136);
+    report_of_length(64, 1, 2744);
+    report_of_length(64, 16, 3194);
+}
+
+/* 64 bookings and 16 ways, each booking confirmed at 999,998 to 999,999: the longest report, and totals of eight digits. */
 static void longest_report(void)
 {
-    static char sheet[2048], fees[64 * 18 + 1], journal[2 * 64 * 6 + 1], report[CAMPAIGN_LONGEST_REPORT + 1];
-    size_t at = (size_t) sprintf(sheet, "P  64   0   1  64\n");
+    static char journal[2 * 64 * 6 + 1];
+    char *at = report_text;
+    write_sheet(sheet_text, 64, 16);
     for (int b = 1; b <= 64; b++) {
-        at += (size_t) sprintf(sheet + at, "B%4d D   1\n", b);
-        sprintf(fees + (b - 1) * 18, "F%4d999999999999\n", b);
+        sprintf(fees_text + (b - 1) * 30, "F%4d999998999999999999      \n", b);
         sprintf(journal + (b - 1) * 6, "Q%4d\n", b);
+        at += sprintf(at, "S%4d     1     0      999998      999999\n", b);
     }
-    at += (size_t) sprintf(sheet + at, "A  64");
-    for (int b = 1; b <= 64; b++) {
-        at += (size_t) sprintf(sheet + at, "%4d", b);
+    for (int b = 1; b <= 64; b++)
         sprintf(journal + (63 + b) * 6, "Y%4d\n", b);
-        sprintf(report + (b - 1) * 30, "S%4d     1     0      999999\n", b);
-    }
-    sprintf(sheet + at, "\n");
-    strcat(report, "T    63999936\n");
-    settled("64 bookings", sheet, fees, journal, report);
-    fees[64 * 18 - 1] = '\0';
-    refused("the last line feed", sheet, fees, journal, sizeof report, CAMPAIGN_WRONG_FEE, 64);
+    at += sprintf(at, "M   1    63999872    63999936\n");
+    for (int way = 2; way <= 16; way++)
+        at += sprintf(at, "M%4d    62999874    62999937\n", way);
+    strcpy(at, "T    63999872    63999936\n");
+    settled("64 bookings", sheet_text, fees_text, journal, report_text);
+    refused("64 bookings, a byte too little room", sheet_text, fees_text, journal, CAMPAIGN_LONGEST_REPORT - 1,
+            CAMPAIGN_SHORT_BUFFER, 0);
+    strcpy(fees_text + 64 * 30, "\n");
+    refused("one byte more", sheet_text, fees_text, journal, sizeof report_text, CAMPAIGN_WRONG_FEE, 65);
+    fees_text[64 * 30 - 1] = '\0';
+    refused("the last line feed", sheet_text, fees_text, journal, sizeof report_text, CAMPAIGN_WRONG_FEE, 64);
+    strcpy(fees_text + 63 * 30, "F  64999999999998999999      \n");
+    refused("the last line crossed", sheet_text, fees_text, journal, sizeof report_text, CAMPAIGN_CROSSED_QUOTE, 64);
 }
 
 /* The fee sheet. */
@@ -191,9 +299,6 @@ static void wrong_fee(const char *fees, uint32_t line)
     refused(fees, pair, fees, TO_RETURN, CAMPAIGN_LONGEST_REPORT, CAMPAIGN_WRONG_FEE, line);
 }
 
-#define FEE_1 "F   1   150    20\n"
-#define FEE_2 "F   2  4000     7\n"
-
 static void wrong_fee_sheets(void)
 {
     wrong_fee("", 1);
@@ -202,79 +307,183 @@ static void wrong_fee_sheets(void)
     wrong_fee(FEE_2, 1);
     wrong_fee(FEE_2 FEE_1, 1);                           /* out of sequence */
     wrong_fee(FEE_1 FEE_1, 2);
-    wrong_fee(FEE_1 "F   3  4000     7\n", 2);
-    wrong_fee(FEE_1 FEE_2 "F   3     0     0\n", 3);     /* one too many */
+    wrong_fee(FEE_1 "F   3  4000           7     9\n", 2);
+    wrong_fee(FEE_1 FEE_2 "F   3     0           0      \n", 3); /* one too many */
     wrong_fee(FEE_1 FEE_2 FEE_2, 3);
     wrong_fee(FEE_1 FEE_2 "\n", 3);
     wrong_fee(FEE_1 FEE_2 " ", 3);
     wrong_fee("\n" FEE_1 FEE_2, 1);
     wrong_fee(FEE_1 "\n" FEE_2, 2);
-    wrong_fee("F   0   150    20\n" FEE_2, 1);
-    wrong_fee("F    01   150    20\n" FEE_2, 1);
-    wrong_fee("F  01   150    20\n" FEE_2, 1);           /* a leading zero */
-    wrong_fee("F   1 00150    20\n" FEE_2, 1);
-    wrong_fee("F   1   150    00\n" FEE_2, 1);
-    wrong_fee("F1      150    20\n" FEE_2, 1);           /* to the left */
-    wrong_fee("F   1150       20\n" FEE_2, 1);
-    wrong_fee("F   1          20\n" FEE_2, 1);           /* no number */
-    wrong_fee("F   1   150      \n" FEE_2, 1);
-    wrong_fee("F   1  +150    20\n" FEE_2, 1);
-    wrong_fee("F   1  -150    20\n" FEE_2, 1);
-    wrong_fee("F   1  1.50    20\n" FEE_2, 1);
-    wrong_fee("F   1   1 0    20\n" FEE_2, 1);
-    wrong_fee("f   1   150    20\n" FEE_2, 1);
-    wrong_fee("B   1   150    20\n" FEE_2, 1);
-    wrong_fee("F   1   150    20\r" FEE_2, 1);
-    wrong_fee("F   1   150    20 \n" FEE_2, 1);
-    wrong_fee("F   11000000    20\n" FEE_2, 1);          /* 1,000,000 */
-    wrong_fee("F   1   150    20\nF   2  04000     7\n", 2);
-    wrong_fee("F   1   15x    20\nF   2  400x     7\n" FEE_2, 1); /* the first of them */
-    wrong_fee(FEE_1 "F   2  400x     7\n" FEE_2, 2);
+    wrong_fee("F   0   150   180    20    35\n" FEE_2, 1);
+    wrong_fee("F    01   150   180    20    35\n" FEE_2, 1);
+    wrong_fee("F  01   150   180    20    35\n" FEE_2, 1); /* a leading zero */
+    wrong_fee("F   1 00150   180    20    35\n" FEE_2, 1);
+    wrong_fee("F   1   150  0180    20    35\n" FEE_2, 1);
+    wrong_fee("F   1   150   180    00    35\n" FEE_2, 1);
+    wrong_fee("F   1   150   180    20    00\n" FEE_2, 1);
+    wrong_fee("F1      150   180    20    35\n" FEE_2, 1); /* to the left */
+    wrong_fee("F   1150      180    20    35\n" FEE_2, 1);
+    wrong_fee("F   1   150180       20    35\n" FEE_2, 1);
+    wrong_fee("F   1   150   180    20     \n" FEE_2, 1);  /* a blank of five columns */
+    wrong_fee("F   1   150   180    20       \n" FEE_2, 1);
+    wrong_fee("F   1  +150   180    20    35\n" FEE_2, 1);
+    wrong_fee("F   1   150  +180    20    35\n" FEE_2, 1);
+    wrong_fee("F   1  -150   180    20    35\n" FEE_2, 1);
+    wrong_fee("F   1   150   180    20     -\n" FEE_2, 1);
+    wrong_fee("F   1   150     ?    20    35\n" FEE_2, 1);
+    wrong_fee("F   1  1.50   180    20    35\n" FEE_2, 1);
+    wrong_fee("F   1   1 0   180    20    35\n" FEE_2, 1);
+    wrong_fee("f   1   150   180    20    35\n" FEE_2, 1);
+    wrong_fee("B   1   150   180    20    35\n" FEE_2, 1);
+    wrong_fee("F   1   150   180    20    35\r" FEE_2, 1);
+    wrong_fee("F   1   150   180    20    35 \n" FEE_2, 1);
+    wrong_fee("F   1   1501000000    20    35\n" FEE_2, 1); /* 1,000,000 */
+    wrong_fee(FEE_1 "F   2  04000           7     9\n", 2);
+    wrong_fee("F   1   15x   180    20    35\nF   2  400x           7     9\n" FEE_2, 1); /* the first of them */
+    wrong_fee(FEE_1 "F   2  400x           7     9\n" FEE_2, 2);
+    wrong_fee("F   1   150    20\nF   2  4000     7\n", 1); /* one fee for each, as it was before quotes */
+    wrong_fee("F   1   150    20\nF   2  4000     7\n             ", 1);
 }
 
-/* A line in which the numbers are written as they must be is what they are written to. */
-static int is_fee_line(const char *line, int booking)
+/* Only a greatest fee may be blank. */
+static void blanks_where_a_number_must_be(void)
 {
-    char again[64];
-    char columns[3][8] = {"", "", ""};
-    long number[3];
-    memcpy(columns[0], line + 1, 4);
-    memcpy(columns[1], line + 5, 6);
-    memcpy(columns[2], line + 11, 6);
-    for (int i = 0; i < 3; i++)
-        number[i] = strtol(columns[i], NULL, 10);
-    sprintf(again, "F%4ld%6ld%6ld\n", number[0], number[1], number[2]);
-    return number[0] == booking && number[1] >= 0 && number[2] >= 0 && memcmp(again, line, 18) == 0;
+    wrong_fee("F   1         180    20    35\n" FEE_2, 1);
+    wrong_fee("F   1   150   180          35\n" FEE_2, 1);
+    wrong_fee("F   1         180          35\n" FEE_2, 1);
+    wrong_fee("F   1                20    35\n" FEE_2, 1);
+    wrong_fee("F   1   150   180            \n" FEE_2, 1);
+    wrong_fee("F   1                        \n" FEE_2, 1);
+    wrong_fee("F       150   180    20    35\n" FEE_2, 1); /* the booking */
+    wrong_fee("                             \n" FEE_2, 1);
+    wrong_fee(FEE_1 "F   2                 7     9\n", 2);
+    wrong_fee(FEE_1 "F   2  4000                 9\n", 2);
 }
 
-/* Each byte of the fee sheet as each other byte; with no Y line the report is the same for all fees. */
+static void crossed(const char *fees, uint32_t line)
+{
+    refused(fees, pair, fees, TO_RETURN, CAMPAIGN_LONGEST_REPORT, CAMPAIGN_CROSSED_QUOTE, line);
+}
+
+#define CROSSED_1 "F   1   180   150    20    35\n"
+#define CROSSED_2 "F   2  4000           9     7\n"
+
+static void crossed_quotes(void)
+{
+    crossed(CROSSED_1 FEE_2, 1);
+    crossed(FEE_1 CROSSED_2, 2);
+    crossed(CROSSED_1 CROSSED_2, 1);
+    crossed("F   1   150   180    35    20\n" FEE_2, 1);
+    crossed("F   1   180   150    35    20\n" FEE_2, 1);
+    crossed("F   1   151   150    20    35\n" FEE_2, 1); /* by one */
+    crossed("F   1   150   180    21    20\n" FEE_2, 1);
+    crossed("F   1     1     0    20    35\n" FEE_2, 1);
+    crossed("F   1999999999998    20    35\n" FEE_2, 1);
+    crossed("F   1   150   180999999     0\n" FEE_2, 1);
+    crossed("F   1   150   180100000 99999\n" FEE_2, 1); /* not by their letters */
+    crossed("F   1   180   150    20      \n" FEE_2, 1); /* beside a blank */
+    crossed("F   1   150          35    20\n" FEE_2, 1);
+}
+
+/* Line by line, and on one line 13 before 15. */
+static void wrong_and_crossed_lines(void)
+{
+    crossed(CROSSED_1 "F   2  400x           7     9\n", 1); /* the next line is misformed, out of sequence, .. */
+    crossed(CROSSED_1 FEE_1, 1);
+    crossed(CROSSED_1 "F   2                 7     9\n", 1);
+    crossed(CROSSED_1 "F   2  4000           7     9", 1);
+    crossed(CROSSED_1 "\n", 1);
+    crossed(CROSSED_1, 1);
+    crossed(CROSSED_1 FEE_2 "\n", 1);
+    crossed(FEE_1 CROSSED_2 "\n", 2);
+    crossed(FEE_1 CROSSED_2 CROSSED_2, 2);
+    wrong_fee("F   1   15x   180    20    35\n" CROSSED_2, 1);
+    wrong_fee("F   1         180    20    35\n" CROSSED_2, 1);
+    wrong_fee(FEE_1 FEE_2 CROSSED_1, 3);
+    wrong_fee("F   1   180   150    2x    35\n" FEE_2, 1);
+    wrong_fee("F   1   180   150    20    3x\n" FEE_2, 1);
+    wrong_fee("F   1   180   150          35\n" FEE_2, 1);
+    wrong_fee("F   1   180   150   020    35\n" FEE_2, 1);
+    wrong_fee("F   1         150    35    20\n" FEE_2, 1);
+    wrong_fee("F   2   180   150    20    35\n" FEE_2, 1);
+    wrong_fee("f   1   180   150    20    35\n" FEE_2, 1);
+    wrong_fee("F   1   180   150    20    35 " FEE_2, 1);
+    wrong_fee("F   1   180   150    20    35", 1);
+    wrong_fee(FEE_1 "F   2  4000           9     7", 2);
+}
+
+struct judged {
+    uint32_t refusal;
+    long least, greatest; /* for a confirmation */
+};
+
+/* Numbers that are written as they must be are what they are written to; a greatest fee may be blank. */
+static struct judged judge(const char *line, int booking)
+{
+    static const struct judged wrong = {CAMPAIGN_WRONG_FEE, 0, 0};
+    char again[64];
+    long number[4];
+    size_t at = (size_t) sprintf(again, "F%4d", booking);
+    for (int i = 0; i < 4; i++) {
+        char columns[8] = "";
+        memcpy(columns, line + at, 6);
+        if (i % 2 == 1 && strcmp(columns, "      ") == 0) {
+            number[i] = number[i - 1];
+            at += (size_t) sprintf(again + at, "      ");
+            continue;
+        }
+        number[i] = strtol(columns, NULL, 10);
+        if (number[i] < 0)
+            return wrong;
+        at += (size_t) sprintf(again + at, "%6ld", number[i]);
+    }
+    strcpy(again + at, "\n");
+    if (memcmp(again, line, 30) != 0)
+        return wrong;
+    struct judged right = {0, number[0], number[1]};
+    if (number[0] > number[1] || number[2] > number[3])
+        right.refusal = CAMPAIGN_CROSSED_QUOTE;
+    return right;
+}
+
+/* Each byte of the fee sheet as each other byte; with no Y line only the way's line tells the fees. */
 static void every_byte_of_a_fee_sheet(void)
 {
-    static const char report[] = NOTHING("1") NOTHING("2") "T           0\n";
-    char fees[37] = FEE_1 FEE_2;
-    int taken = 0;
-    for (int at = 0; at < 36; at++) {
+    char fees[61] = FEE_1 FEE_2, report[256];
+    uint32_t taken = 0, crosswise = 0;
+    for (int at = 0; at < 60; at++) {
         char right = fees[at];
         for (int byte = 0; byte < 256; byte++) {
-            struct text changed = {fees, 36};
+            struct text changed = {fees, 60};
             fees[at] = (char) byte;
-            int good = is_fee_line(fees + at / 18 * 18, 1 + at / 18);
-            settle("a changed byte of a fee sheet", text(pair), changed, text("Q   1\n"), sizeof report - 1,
-                   good ? 0 : CAMPAIGN_WRONG_FEE, good ? sizeof report - 1 : 1 + (uint32_t) at / 18, good ? report : NULL);
-            taken += good;
+            struct judged first = judge(fees, 1), second = judge(fees + 30, 2);
+            uint32_t refusal = at < 30 ? first.refusal : second.refusal;
+            size_t length = (size_t) sprintf(report, NOTHING("1") NOTHING("2") "M   1%12ld%12ld\n" NO_TOTAL,
+                                             first.least + second.least, first.greatest + second.greatest);
+            settle("a changed byte of a fee sheet", text(pair), changed, text("Q   1\n"), length, refusal,
+                   refusal == 0 ? (uint32_t) length : 1 + (uint32_t) at / 30, refusal == 0 ? report : NULL);
+            taken += refusal == 0;
+            crosswise += refusal == CAMPAIGN_CROSSED_QUOTE;
         }
         fees[at] = right;
     }
-    /* Of a fee's columns: 4 * 10 + 2 in 150, 3 * 10 + 3 in 20, 4 * 10 + 9 + 1 in 4000, 2 * 10 + 4 in 7; else one byte alone. */
-    expect("changed fee sheets that are taken", (uint32_t) taken, 0, 0, 42 + 33 + 50 + 24 + 2 * 6);
+    /* By columns of 150, 180, 20 and 35, of 4000, a blank, 7 and 9; in all else one byte alone is taken, of 6 a line. */
+    expect("changed fee sheets that are taken", taken, 0, 0, (24 + 36 + 18 + 31) + (50 + 6 + 15 + 18) + 2 * 6);
+    expect("changed fee sheets that are crossed", crosswise, 0, 0, (18 + 6 + 15 + 2) + (0 + 10 + 9 + 7));
 }
 
 static void fee_sheet_cut(void)
 {
-    for (size_t length = 0; length < 72; length++) {
+    for (size_t length = 0; length < 120; length++) {
         struct text fees = {tanker_fees, length};
         settle("a fee sheet cut short", text(tanker), fees, text("Q   1\n"), CAMPAIGN_LONGEST_REPORT, CAMPAIGN_WRONG_FEE,
-               1 + (uint32_t) length / 18, NULL);
+               1 + (uint32_t) length / 30, NULL);
+    }
+    /* A whole line that is crossed comes before what is missing. */
+    for (size_t length = 0; length < 60; length++) {
+        struct text fees = {CROSSED_1 FEE_2, length};
+        settle("a crossed fee sheet cut short", text(pair), fees, text("Q   1\n"), CAMPAIGN_LONGEST_REPORT,
+               length < 30 ? CAMPAIGN_WRONG_FEE : CAMPAIGN_CROSSED_QUOTE, 1, NULL);
     }
 }
 
@@ -292,8 +501,9 @@ static struct text long_journal(int lines, const char *tail)
 }
 
 static const char patient[] = "P   1   0   1  64\nB   1 R   1\nA   1   1\n";
-static const char patient_fee[] = "F   1    12    34\n";
-static const char patient_report[] = NOTHING("1") "T           0\n";
+static const char patient_fee[] = "F   1    12    15    34      \n";
+#define PATIENT_WAY "M   1          12          15\n"
+static const char patient_report[] = NOTHING("1") PATIENT_WAY NO_TOTAL;
 
 static void long_journals(void)
 {
@@ -303,15 +513,17 @@ static void long_journals(void)
     settle("10,000 lines, 1 byte", sheet, fees, long_journal(10000, "Y"), length, 0, length, patient_report);
     settle("10,000 lines, 5 bytes", sheet, fees, long_journal(10000, "Q   1"), length, 0, length, patient_report);
     settle("10,000 lines, the last Y", sheet, fees, long_journal(9999, "Y   1\n"), length, 0, length,
-           "S   1     1     0          12\nT          12\n");
+           "S   1     1     0          12          15\n" PATIENT_WAY "T          12          15\n");
     settle("10,001 lines", sheet, fees, long_journal(10000, "Q   1\n"), length, CAMPAIGN_LONG_JOURNAL, 0, NULL);
     settle("10,001 lines and a tail", sheet, fees, long_journal(10000, "Q   1\nN"), length, CAMPAIGN_LONG_JOURNAL, 0, NULL);
     settle("13,000 lines", sheet, fees, long_journal(13000, ""), length, CAMPAIGN_LONG_JOURNAL, 0, NULL);
     settle("the last of 10,000 wrong", sheet, fees, long_journal(9999, "G   1\n"), length, CAMPAIGN_WRONG_LINE, 10000, NULL);
-    /* 14 comes before 12, 13 and 10, and after the sheet. */
+    /* 14 comes before 12, 13, 15 and 10, and after the sheet. */
     settle("10,001 lines, the last wrong", sheet, fees, long_journal(10000, "G   1\n"), length, CAMPAIGN_LONG_JOURNAL, 0,
            NULL);
     settle("10,001 lines, no fees", sheet, text(""), long_journal(10001, ""), 0, CAMPAIGN_LONG_JOURNAL, 0, NULL);
+    settle("10,001 lines, a crossed quote", sheet, text("F   1    15    12    34      \n"), long_journal(10001, ""), 0,
+           CAMPAIGN_LONG_JOURNAL, 0, NULL);
     settle("10,001 lines, a stranding point", text(twin), fees, long_journal(10001, ""), length, CAMPAIGN_STRANDING, 259,
            NULL);
     settle("10,001 lines, no sheet", text(""), fees, long_journal(10001, ""), length, CAMPAIGN_FORM, 1, NULL);
@@ -331,6 +543,13 @@ static void wrong_sheets(void)
     refused("unused", "P   2   0   1  64\nB   1 C   1\nB   2 C   1\nA   1   1\n", pair_fees, "", room, CAMPAIGN_UNUSED, 2);
     refused("way twice", "P   1   0   2  64\nB   1 C   1\nA   1   1\nA   1   1\n", patient_fee, "", room, CAMPAIGN_WAY_TWICE, 2);
     refused("twin", twin, "", "G   1\n", 0, CAMPAIGN_STRANDING, 259);
+    refused("twin, a crossed quote", twin, CROSSED_1, "", room, CAMPAIGN_STRANDING, 259);
+    /* A number of a sheet or a journal may not be blank. */
+    refused("no number of bookings", "P       0   1  64\nB   1 C   1\nA   1   1\n", patient_fee, "", room, CAMPAIGN_FORM, 1);
+    refused("no limit", "P   1   0   1    \nB   1 C   1\nA   1   1\n", patient_fee, "", room, CAMPAIGN_FORM, 1);
+    refused("no desk", "P   1   0   1  64\nB   1 C    \nA   1   1\n", patient_fee, "", room, CAMPAIGN_FORM, 2);
+    refused("no booking on a way", "P   1   0   1  64\nB   1 C   1\nA   1    \n", patient_fee, "", room, CAMPAIGN_FORM, 3);
+    refused("no booking in a journal", patient, patient_fee, "Q    \n", room, CAMPAIGN_WRONG_LINE, 1);
 }
 
 static void wrong_journals(void)
@@ -342,16 +561,18 @@ static void wrong_journals(void)
     refused("returned without an order", tanker, tanker_fees, "Q   1\nY   1\nG   1\n", room, CAMPAIGN_WRONG_LINE, 3);
     refused("misformed", tanker, tanker_fees, "Q   1\nY0001\n", room, CAMPAIGN_WRONG_LINE, 2);
     refused("after the end", tanker, tanker_fees, "Q   1\nN   1\nQ   1\n", room, CAMPAIGN_WRONG_LINE, 3);
-    /* 12 comes before 13 and 10, 13 before 10. */
+    /* 12 comes before 13, 15 and 10, these two before 10. */
     refused("12 before 13", tanker, "", "Q   1\nY   2\n", room, CAMPAIGN_WRONG_LINE, 2);
+    refused("12 before 15", pair, CROSSED_1 FEE_2, "Q   1\nY   2\n", room, CAMPAIGN_WRONG_LINE, 2);
     refused("12 before 10", tanker, tanker_fees, "Q   1\nY   2\n", 0, CAMPAIGN_WRONG_LINE, 2);
-    refused("13 before 10", tanker, "F   1  1500   300\n", "Q   1\nY   1\n", 0, CAMPAIGN_WRONG_FEE, 2);
+    refused("13 before 10", tanker, FEE_1, "Q   1\nY   1\n", 0, CAMPAIGN_WRONG_FEE, 2);
     refused("13 before 10, too many", pair, FEE_1 FEE_2 FEE_2, "", 0, CAMPAIGN_WRONG_FEE, 3);
+    refused("15 before 10", pair, FEE_1 CROSSED_2, "Q   1\n", 0, CAMPAIGN_CROSSED_QUOTE, 2);
 }
 
 static void short_buffers(void)
 {
-    for (size_t room = 0; room < 4 * 30 + 14; room++)
+    for (size_t room = 0; room < 4 * 42 + 2 * 30 + 26; room++)
         refused("a short buffer", tanker, tanker_fees, TO_CHASE, room, CAMPAIGN_SHORT_BUFFER, 0);
 }
 
@@ -368,17 +589,23 @@ static void nulls(void)
     expect("null report", campaign_settle(sheet, length, fees, line, journal, 6, NULL, 0), 0, CAMPAIGN_SHORT_BUFFER, 0);
     expect("all null: settle", campaign_settle(NULL, 0, NULL, 0, NULL, 0, NULL, 0), 0, CAMPAIGN_FORM, 1);
     expect("null journal: settle", campaign_settle(sheet, length, fees, line, NULL, 0, report, sizeof report),
-           CAMPAIGN_ACCEPTED, 0, 44);
-    expect_bytes("null journal: settle", report, patient_report, 44);
+           CAMPAIGN_ACCEPTED, 0, 98);
+    expect_bytes("null journal: settle", report, patient_report, 98);
 }
 
 int main(void)
 {
     tanker_bills();
+    bill_of_the_header();
     bills_with_returns();
+    bills_with_blanks();
     bill_with_a_booking_twice();
+    report_lengths();
     longest_report();
     wrong_fee_sheets();
+    blanks_where_a_number_must_be();
+    crossed_quotes();
+    wrong_and_crossed_lines();
     every_byte_of_a_fee_sheet();
     fee_sheet_cut();
     long_journals();

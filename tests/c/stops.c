@@ -137,10 +137,24 @@ static unsigned below(unsigned bound)
 
 /* Bills. */
 
-static unsigned long fee_of(char letter, int booking)
+static unsigned long least_fee(char letter, int booking)
 {
-    unsigned long fee = (letter == 'Y' ? 7919ul : 104729ul) * (unsigned long) booking % 1000003ul;
-    return fee <= 999999 ? fee : 0;
+    return (letter == 'Y' ? 7919ul : 104729ul) * (unsigned long) booking % 500009ul;
+}
+
+/* Of every third booking it is the same, and left blank. */
+static unsigned long greatest_fee(char letter, int booking)
+{
+    return least_fee(letter, booking) + (booking % 3 == 0 ? 0 : 31ul * (unsigned long) booking);
+}
+
+static void write_quote(FILE *file, char letter, int booking)
+{
+    fprintf(file, "%6lu", least_fee(letter, booking));
+    if (booking % 3 == 0)
+        fprintf(file, "%6s", "");
+    else
+        fprintf(file, "%6lu", greatest_fee(letter, booking));
 }
 
 static void write_fees(const char *sheet)
@@ -150,22 +164,31 @@ static void write_fees(const char *sheet)
     int bookings;
     if (file == NULL || sscanf(plan.at, "P%4d", &bookings) != 1)
         fail(NULL, "no fee sheet for %s", sheet);
-    for (int booking = 1; booking <= bookings; booking++)
-        fprintf(file, "F%4d%6lu%6lu\n", booking, fee_of('Y', booking), fee_of('G', booking));
+    for (int booking = 1; booking <= bookings; booking++) {
+        fprintf(file, "F%4d", booking);
+        write_quote(file, 'Y', booking);
+        write_quote(file, 'G', booking);
+        fprintf(file, "\n");
+    }
     if (fclose(file) != 0)
         fail(NULL, "%s can't be written", fees);
     free(plan.at);
 }
 
-/* The total by the journal's lines is the last line of a bill. */
+/* The totals by the journal's lines are the last line of a bill. */
 static void check_bill(const struct campaign *campaign)
 {
-    char last[32];
-    unsigned long total = 0;
-    for (size_t at = 0; at < campaign->journal.length; at += LINE)
-        if (strchr("YG", campaign->journal.at[at]) != NULL)
-            total += fee_of(campaign->journal.at[at], atoi(campaign->journal.at + at + 1));
-    snprintf(last, sizeof last, "\nT%12lu\n", total);
+    char last[64];
+    unsigned long least = 0, greatest = 0;
+    for (size_t at = 0; at < campaign->journal.length; at += LINE) {
+        char letter = campaign->journal.at[at];
+        int booking = atoi(campaign->journal.at + at + 1);
+        if (strchr("YG", letter) == NULL)
+            continue;
+        least += least_fee(letter, booking);
+        greatest += greatest_fee(letter, booking);
+    }
+    snprintf(last, sizeof last, "\nT%12lu%12lu\n", least, greatest);
     size_t length = strlen(last);
     if (campaign->books.length < length || strcmp(campaign->books.at + campaign->books.length - length, last) != 0)
         fail(campaign, "no bill, or another total than%s", last);
@@ -465,7 +488,7 @@ static void print_manner(void)
     if (blocks)
         printf("stops: replies in blocks, %lu of the stops within the lines of one\n", met.within);
     if (billed)
-        printf("stops: and the same bill, its total that of the journal's lines\n");
+        printf("stops: and the same bill, its totals those of the journal's lines\n");
 }
 
 static void bytes_mode(char **sheets)

@@ -9,11 +9,11 @@ use types.Run.{OneOf}
 use denote.Enum.Declared.{tagOf}
 use lib.ListN.{getD, take, drop, take-append-drop}
 use lib.Seq.{drop-drop, take-at, getD-take, getD-drop}
-use Rattle.decimal.specs.Decimal.{columns, valueOf, fieldAt, numberAt}
+use Rattle.decimal.specs.Decimal.{columns, valueOf, fieldText, fieldAt, numberAt}
 use Rattle.decimal.specs.declared.Field.{Field}
 use Rattle.decimal.specs.declared.Field.the-variants.{Number, Blank, Fault}
 use Rattle.decimal.proofs.Field.{the-type}
-use Rattle.decimal.proofs.Laws.{Reads, read-written, value-written, columns-number, columns-length, written-read}
+use Rattle.decimal.proofs.Laws.{Reads, read-written, value-written, columns-number, columns-length, written-read, own-text}
 
 -- what the else of a reader's `let Field::Number(y) = f else` is told: by its number the variant is Blank or Fault
 abbrev pub NoNumber : Field → Type 0
@@ -64,19 +64,7 @@ pub field-text : (w at : ℕ) (line : List ℕ) (y : ℕ) → fieldAt w at line 
 unfolding fieldAt
 field-text w at line y e = read-written w (take w (drop at line)) y e .text
 
--- ---- the value of w columns, one after the other
-
--- one digit more
-pub digit-on : (w at i x b d : ℕ) (line : List ℕ) → i < w → x ≡ valueOf i (take w (drop at line)) → b ≡ getD line (at + i) 0 → d ≡ b % 16
-    → x * 10 + d ≡ valueOf (i + 1) (take w (drop at line))
-unfolding valueOf
-digit-on w at i x b d line h e f g =
-    let s : List ℕ = take w (drop at line) in
-    let n : i + 1 ≡ suc i = omega arith in
-    let y : getD s i 0 ≡ getD line (at + i) 0 = getD-take w (drop at line) i 0 h ∙ getD-drop at line i 0 in
-    rw (n, y, ← f, ← g, ← e)
-
--- all of them
-pub value-all : (w at i x : ℕ) (line : List ℕ) → i ≤ w → w ≤ i → x ≡ valueOf i (take w (drop at line)) → x ≡ numberAt w at line
-unfolding numberAt
-value-all w at i x line h l e = let n : i ≡ w = omega arith in rw n at e
+-- a field that is no fault, and then the rest of the line
+pub text-then : (w at : ℕ) (line : List ℕ) → (fieldAt w at line ≡ Fault → ⊥) → drop at line ≡ fieldText w (fieldAt w at line) ++ drop (at + w) line
+unfolding fieldAt
+text-then w at line h = sym (take-append-drop w (drop at line)) ∙ rw (← (own-text w (take w (drop at line)) h), drop-drop w at line)

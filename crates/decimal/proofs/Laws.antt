@@ -16,7 +16,7 @@ use borrow.Author.Tests.{eqb-true, eqb-false, eq-eqb, ne-eqb, leb-true, le-leb, 
 use Rattle.bounded.proofs.Bools.{clash, and-l, and-r, and-no-r, and-true, last?, split?, _&_}
 use Rattle.bounded.proofs.First.{Least, first-least}
 use Rattle.bounded.specs.Bounded.{first}
-use Rattle.decimal.specs.Decimal.{begun, column, columnsTo, columns, valueOf, sameBytes, spaces, unreadOf, fieldOf}
+use Rattle.decimal.specs.Decimal.{begun, column, columnsTo, columns, valueOf, sameBytes, spaces, unreadOf, fieldOf, fieldText}
 use Rattle.decimal.specs.declared.Field.{Field}
 use Rattle.decimal.specs.declared.Field.the-variants.{Number, Blank, Fault}
 use Rattle.decimal.proofs.Bytes.{same-refl, same-eq, same-ne}
@@ -177,6 +177,27 @@ read-written w s x = go (sameBytes s (columns w (valueOf w s))) (same-eq s (colu
         let t : s ≡ columns w x = rw v at (h refl) in
         record { small = subst (λ (n : ℕ). n < 10 ^ w) (ap (valueOf w) (sym t) ∙ v) (value-small true w x); value = sym v; text = t }
     go false h e = absurd (unread-no w s x e)
+
+-- what is written of a blank is read as a blank, since a number's last column is no space
+pub blank-read : (w : ℕ) → fieldOf (suc w) (spaces (suc w)) ≡ Blank
+unfolding fieldOf unreadOf columns columnsTo
+blank-read w =
+    let v : ℕ = valueOf (suc w) (spaces (suc w)) in
+    let n : sameBytes (spaces (suc w)) (columns (suc w) v) ≡ false = same-ne (spaces (suc w)) (columns (suc w) v) (λ e.
+    let z : 32 ≡ column true v = sym (space-at (suc w) w (omega arith)) ∙ ap (λ (l : List ℕ). getD l w 0) e ∙ getD-at (columnsTo false w (v / 10)) (column true v) [] 0 w (to-length false w (v / 10)) in
+    elim (column-cases true v) [ inl c ↦ clash true refl (c .1) | inr c ↦ omega arith ]) in
+    rw (n, same-refl (spaces (suc w)))
+
+-- a field that is no fault is what is written of it
+pub own-text : (w : ℕ) (s : List ℕ) → (fieldOf w s ≡ Fault → ⊥) → s ≡ fieldText w (fieldOf w s)
+unfolding fieldOf unreadOf fieldText
+own-text w s = go (sameBytes s (columns w (valueOf w s))) (sameBytes s (spaces w)) (same-eq s (columns w (valueOf w s))) (same-eq s (spaces w))
+  where
+    go : (a b : Bool) → (a ≡ true → s ≡ columns w (valueOf w s)) → (b ≡ true → s ≡ spaces w) → (cond a (Number (valueOf w s)) (cond b Blank Fault) ≡ Fault → ⊥)
+        → s ≡ fieldText w (cond a (Number (valueOf w s)) (cond b Blank Fault))
+    go true b p q n = p refl
+    go false true p q n = q refl
+    go false false p q n = absurd (n refl)
 
 -- the columns of the value are a number
 pub columns-number : (w : ℕ) (s : List ℕ) → s ≡ columns w (valueOf w s) → fieldOf w s ≡ Number (valueOf w s)

@@ -52,6 +52,12 @@ unreadOf w s = cond (sameBytes s (spaces w)) Blank Fault
 unfoldable pub fieldOf : ℕ → List ℕ → Field
 fieldOf w s = cond (sameBytes s (columns w (valueOf w s))) (Number (valueOf w s)) (unreadOf w s)
 
+-- the w columns in which a field is written; a fault has none of its own
+unfoldable pub fieldText : ℕ → Field → List ℕ
+fieldText w (Number x) = columns w x
+fieldText w Blank = spaces w
+fieldText w Fault = []
+
 -- the field of w columns that starts at a place of a line, and the number that can stand there
 unfoldable pub fieldAt : ℕ → ℕ → List ℕ → Field
 fieldAt w at line = fieldOf w (take w (drop at line))

@@ -8,7 +8,7 @@ ghost use lib.Dec.{eqb, leb, ltb};
 ghost use lib.ListN.{length, getD, take, drop};
 ghost use lib.Seq.{sets};
 ghost use Rattle.bounded.specs.Bounded.{first};
-ghost use Rattle.decimal.specs.Decimal.{begun, column, columns, sameBytes, spaces, unreadOf, fieldOf, fieldAt, numberAt};
+ghost use Rattle.decimal.specs.Decimal.{begun, column, columns, sameBytes, spaces, unreadOf, fieldOf, fieldAt};
 
 // What a number field holds.
 pub enum Field {
@@ -136,20 +136,6 @@ pub fn field_at(line: &[u8], at: usize, w: usize) -> Field
     ensures { λ r. ⌜ r ≡ fieldAt w at (now (line .entry)) ⌝ }
 {
     read_field(part(line, at, w), w)
-}
-
-// The number in the w columns that start at at, where it is known that they hold one.
-pub fn number_at(line: &[u8], at: usize, w: usize) -> usize
-    requires { ⌜ (w ≤ 12) × (at + w ≤ length (now line)) ⌝ }
-    ensures { λ r. ⌜ r ≡ numberAt w at (now (line .entry)) ⌝ }
-{
-    let mut x = 0;
-    let mut i = 0;
-    while i < w {
-        x = x * 10 + digit(line[at + i]);
-        i += 1;
-    }
-    x
 }
 
 // The byte in the column with which the number q ends.

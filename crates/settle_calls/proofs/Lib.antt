@@ -1,3 +1,4 @@
 -- The laws of crate `settle_calls`.
+pub mod Rated
 pub mod Exits
 pub mod Accepted

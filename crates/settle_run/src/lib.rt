@@ -28,7 +28,7 @@ fn write_settled(sheet: &[u8], fees: &[u8], journal: &[u8], text: &mut [u8]) -> 
 
 // Prints the report of three texts, or why there is none. A program has no exit status, so a bill that is lost is told on standard error.
 fn print_settled(sheet: &[u8], fees: &[u8], journal: &[u8]) {
-    let mut text = [0u8; 1934];
+    let mut text = [0u8; 3194];
     let n = write_settled(sheet, fees, journal, &mut text);
     if !io::write_all(STDOUT_FILENO, &text[..n]) {
         io::write_all(STDERR_FILENO, b"settle: the bill could not be written\n");

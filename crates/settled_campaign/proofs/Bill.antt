@@ -36,7 +36,7 @@ use Rattle.settled_campaign.proofs.Lines.{machine-counts}
 -- ---- what is counted
 
 -- a journal that has the lines of the machine's calls counts them
-module _ (g : Network) (few : g .n ≤ 64) (fees journal : List ℕ) (qs : List Asked) (e : journalLines journal ≡ journalLines (machineJournal g start qs)) where
+module _ (g : Network) (few : g .n ≤ 64) (journal : List ℕ) (qs : List Asked) (e : journalLines journal ≡ journalLines (machineJournal g start qs)) where
   abbrev xs : List ℕ
   xs = machineAnswers g start qs
 
@@ -48,11 +48,11 @@ module _ (g : Network) (few : g .n ≤ 64) (fees journal : List ℕ) (qs : List 
   unfolding returnedIn returns returned
   returned-is b = ap (naming G (suc b)) e ∙ machine-counts G (suc b) (λ q. omega arith) (λ q. omega arith) (returned (suc b)) (λ x. refl) (λ l n x. refl) g few start qs
 
-  counts : Counts fees journal qs xs
+  counts : Counts journal qs xs
   counts = record {
     confirmations = confirmed-is;
     returns = returned-is;
-    amounts = λ b. amount-counts fees journal b ∙ rw (confirmed-is b, returned-is b);
+    amounts = λ cs rs b. amount-counts journal cs rs b ∙ rw (confirmed-is b, returned-is b);
   }
 
 -- a tail is no line
@@ -90,17 +90,17 @@ module _ (s : List ℕ) (e : sheetPasses s ≡ true) where
   unfolding settles
   billed-start fees cs = record {
     settled = λ h w. e & (le-leb _ mostLines h & (eq-eqb _ 0 (taken cs) & eq-eqb _ 0 w));
-    counted = rw (told-is cs) (counts (networkIn s) few fees (journalOn s (bytesOf start) cs) (singlyOn s (bytesOf start) cs) (ap journalLines (journal-is s e cs)));
+    counted = rw (told-is cs) (counts (networkIn s) few (journalOn s (bytesOf start) cs) (singlyOn s (bytesOf start) cs) (ap journalLines (journal-is s e cs)));
   }
 
-  alone-start : (old fees journal : List ℕ) → Accepted s journal old → BilledAlone s (bytesOf start) fees journal
-  alone-start old fees journal a =
+  alone-start : (old journal : List ℕ) → Accepted s journal old → BilledAlone s (bytesOf start) journal
+  alone-start old journal a =
       let qs : List Asked = callsOf journal in
       let x = exact-start s e journal old a in
       record {
         exact = x;
         whole = from-start s e (singles qs);
-        counted = rw (singles-bits s e qs) (counts (networkIn s) few fees journal qs (sym (whole-lines journal) ∙ ap journalLines (x ∙ journal-singles s e qs)));
+        counted = rw (singles-bits s e qs) (counts (networkIn s) few journal qs (sym (whole-lines journal) ∙ ap journalLines (x ∙ journal-singles s e qs)));
       }
 
 -- ---- the theorems, from the state that start leaves, whatever its 65 bytes were before
@@ -111,7 +111,7 @@ module _ (s old : List ℕ) (size : length old ≡ 65) where
   billed e fees cs = rw (started s e old size) (billed-start s e fees cs)
 
   -- for everything that is settled
-  pub billed-alone : (fees journal : List ℕ) → settles s fees journal ≡ true → BilledAlone s (startLeaves s old) fees journal
+  pub billed-alone : (fees journal : List ℕ) → settles s fees journal ≡ true → BilledAlone s (startLeaves s old) journal
   billed-alone fees journal e =
       let a = settled-e s fees journal e in
-      rw (started s (a .passes) old size) (alone-start s (a .passes) old fees journal (record { passes = a .passes; size = size; right = a .entries }))
+      rw (started s (a .passes) old size) (alone-start s (a .passes) old journal (record { passes = a .passes; size = size; right = a .entries }))

@@ -3,10 +3,10 @@
 
 use crate::calls::{self, kind_of, place_of};
 use crate::drill::refused_line;
-use crate::plan::MOST_BOOKINGS;
+use crate::plan::{MOST_BOOKINGS, MOST_WAYS};
 
-/// A line for each booking there can be, and the total.
-const LONGEST_REPORT: usize = 30 * MOST_BOOKINGS + 14;
+/// A line for each booking and each way there can be, and the total.
+const LONGEST_REPORT: usize = 42 * MOST_BOOKINGS + 30 * MOST_WAYS + 26;
 
 pub fn bill(sheet: &[u8], fees: &[u8], journal: &[u8]) -> String {
     let mut report = [0; LONGEST_REPORT];

@@ -63,10 +63,6 @@ fn wrong_line(line: usize) -> Refusal {
     Refusal { number: 12, place: line.min(HIGHEST_LINE) as u32 }
 }
 
-fn wrong_fee_line(line: usize) -> Refusal {
-    Refusal { number: 13, place: line as u32 }
-}
-
 fn too_many_lines() -> Refusal {
     Refusal { number: 14, place: 0 }
 }
@@ -188,8 +184,8 @@ fn report_of(judged: &Judged, fees: &[u8], journal: &[u8], length: usize) -> Res
         return Err(too_many_lines());
     }
     journal::replay(network, journal).map_err(wrong_line)?;
-    let fees = settle::read_fees(fees, network.plan.count()).map_err(wrong_fee_line)?;
-    let text = settle::report(&fees, journal);
+    let fees = settle::read_fees(fees, network.plan.count())?;
+    let text = settle::report(&network.plan.ways, &fees, journal);
     if text.len() > length {
         return Err(short_buffer());
     }

@@ -162,7 +162,46 @@ pub fn boundaries() -> Vec<Flight> {
         flight("longest sheet", longest(), (7, 2)),
         overlong,
     ];
-    counts.into_iter().chain(written_desks::fields()).collect()
+    counts.into_iter().chain(written_desks::fields()).chain(blanks()).collect()
+}
+
+/// A sheet with a field left blank, each in turn: its line is not of its form. In one of them the
+/// blank would stand for no links.
+fn blanks() -> Vec<Flight> {
+    let lines = [
+        "P   2   1   2  64\n",
+        "B   1 C   1\n",
+        "B   2 D   1\n",
+        "L   1   2\n",
+        "A   1   1\n",
+        "A   2   1   2\n",
+    ];
+    let blanks = [
+        (1, "P       1   2  64\n"),
+        (1, "P   2       2  64\n"),
+        (1, "P   2   1      64\n"),
+        (1, "P   2   1   2    \n"),
+        (1, "P                \n"),
+        (2, "B     C   1\n"),
+        (2, "B   1 C    \n"),
+        (3, "B     D   1\n"),
+        (3, "B   2 D    \n"),
+        (4, "L       2\n"),
+        (4, "L   1    \n"),
+        (5, "A       1\n"),
+        (5, "A   1    \n"),
+        (6, "A       1   2\n"),
+        (6, "A   2       2\n"),
+        (6, "A   2   1    \n"),
+    ];
+    let blank = |(line, text): (usize, &str)| {
+        let mut lines = lines;
+        lines[line - 1] = text;
+        Flight { name: "a blank field", sheet: lines.concat().into_bytes(), verdict: (1, line as u32) }
+    };
+    let no_links = b"P   1       1  64\nB   1 C   1\nA   1   1\n".to_vec();
+    let no_links = Flight { name: "a blank for no links", sheet: no_links, verdict: (1, 1) };
+    blanks.map(blank).into_iter().chain([no_links]).collect()
 }
 
 /// A state that breaks one sentence of soundness and no other.

@@ -344,7 +344,7 @@ fn spoil_lines(dice: &mut Dice, text: &[u8]) -> Vec<u8> {
 }
 
 /// Where the numbers of a line begin: a kind stands before a booking's desk.
-fn fields_of(line: &[u8]) -> Vec<usize> {
+pub fn fields_of(line: &[u8]) -> Vec<usize> {
     if line.starts_with(b"B") && line.len() == 11 {
         return vec![1, 7];
     }

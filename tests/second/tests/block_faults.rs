@@ -52,6 +52,8 @@ enum Fault {
     LineFeedNotLookedAt,
     LeadingZerosRead,
     BlankInANumberPassedOver,
+    BlankIsZero,
+    BlankIsTheLowestOpen,
     BookingCutToByte,
     // What a reply does.
     NeverSwitches,
@@ -86,6 +88,11 @@ impl Faulty {
     }
 }
 
+/// Whether a line has a blank for its booking.
+fn is_blank(line: &[u8]) -> bool {
+    line.len() == LINE_LENGTH && &line[1..] == b"    \n"
+}
+
 /// A line as a faulty reader takes it.
 fn as_read(fault: Fault, line: &[u8]) -> Option<(u8, usize)> {
     let mut line = line.to_vec();
@@ -99,6 +106,7 @@ fn as_read(fault: Fault, line: &[u8]) -> Option<(u8, usize)> {
         BlankInANumberPassedOver if line.len() == LINE_LENGTH && line[2] != b' ' && line[3] == b' ' => {
             line[1..4].rotate_right(1);
         }
+        BlankIsZero if is_blank(&line) => line[4] = b'0',
         _ => {}
     }
     let (letter, booking) = journal::read_line(&line)?;
@@ -151,7 +159,12 @@ fn after_reply(fault: Fault, network: &Network, before: State, mut state: State,
 
 /// The state after a line, or its refusal.
 fn after_line(fault: Fault, network: &Network, state: State, line: &[u8]) -> Result<State, u32> {
-    let Some((letter, booking)) = as_read(fault, line) else {
+    let open = || (1..state.len()).find(|&b| [run::REQUESTED, run::RETURNING].contains(&state[b]));
+    let read = match fault {
+        BlankIsTheLowestOpen if is_blank(line) => open().map(|booking| (line[0], booking)),
+        _ => as_read(fault, line),
+    };
+    let Some((letter, booking)) = read else {
         let unfinished = line.len() < LINE_LENGTH;
         let misfit = fault == MisformedIs9 && !unfinished || fault == UnfinishedIs9 && unfinished;
         return Err(if misfit { 9 } else { 1 });
@@ -408,6 +421,8 @@ fn wrong_lines_and_replies_are_found() {
     demand_found(&[OrderTaken, CopyPassedOver, SmallLettersRead, LineFeedNotLookedAt, LeadingZerosRead]);
     demand_found(&[
         BlankInANumberPassedOver,
+        BlankIsZero,
+        BlankIsTheLowestOpen,
         BookingCutToByte,
         NeverSwitches,
         SwitchesAtOnce,

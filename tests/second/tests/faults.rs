@@ -3,6 +3,7 @@
 use second::calls::{self, kind_of, pack, place_of, refusal_of};
 use second::check::{self, Network};
 use second::comparison::{Campaign, Comparison, Outcome};
+use second::generate;
 use second::journal::{self, LINE_LENGTH};
 use second::plan::{self, Kind};
 use second::run::{self, Order, State};
@@ -16,6 +17,10 @@ enum Fault {
     RepeatablesLeftOutOfS,
     RefugeMayHaveLostPivot,
     OneLineFeedTooManyIsRead,
+    BlankOnASheetIsZero,
+    BlankLinksAreNone,
+    BlankBookingIsDue,
+    BlankDeskIsTheFirst,
     StrandingPlaceTurnedRound,
     DropsSentence(usize),
     LongerStateIsCut,
@@ -53,6 +58,8 @@ enum Fault {
     LeadingZerosAreRead,
     SmallLettersAreRead,
     BlankInANumberIsPassedOver,
+    BlankIsTheLineAbove,
+    BlankLineIsPassedOver,
     LastLineIsDropped,
     ReplayEndsWithALostWay,
     ReplayReturnsInAnyOrder,
@@ -108,6 +115,32 @@ fn strands_without_any_holder(network: &Network, way: usize, x: usize) -> bool {
     let firm = check::firm_beside(network, way, x);
     let holds = |j: usize| firm.iter().all(|&s| network.plan.is_in_way(s, j));
     !firm.is_empty() && !(way + 1..=network.plan.ways.len()).any(holds)
+}
+
+/// The number that a version takes for a blank in this field of a line, if it takes one.
+fn number_for_blank(fault: Fault, line: usize, letter: u8, field: usize) -> Option<usize> {
+    match (fault, letter, field) {
+        (Fault::BlankOnASheetIsZero, _, _) | (Fault::BlankLinksAreNone, b'P', 1) => Some(0),
+        (Fault::BlankBookingIsDue, b'B', 0) => Some(line),
+        (Fault::BlankDeskIsTheFirst, b'B', 1) => Some(1),
+        _ => None,
+    }
+}
+
+/// The sheet as a version reads it that takes a number for some blanks.
+fn with_blanks_filled(fault: Fault, sheet: &[u8]) -> Vec<u8> {
+    let mut text = sheet.to_vec();
+    for (at, line) in text.split_inclusive_mut(|&byte| byte == b'\n').enumerate() {
+        let fields = generate::fields_of(&line[..line.len() - 1]);
+        for (field, begin) in fields.into_iter().enumerate() {
+            let number = number_for_blank(fault, at, line[0], field);
+            let columns = &mut line[begin..begin + 4];
+            if let Some(number) = number.filter(|_| columns == b"    ") {
+                columns.copy_from_slice(format!("{number:4}").as_bytes());
+            }
+        }
+    }
+    text
 }
 
 /// Check, with another kind in place of each D.
@@ -225,6 +258,22 @@ fn faulty_replay(
     Ok(state)
 }
 
+/// A journal without the lines that have a blank for their booking, or with that of the line above.
+fn journal_without_blanks(journal: &[u8], above: bool) -> Vec<u8> {
+    let mut text: Vec<u8> = Vec::new();
+    for line in journal.chunks(LINE_LENGTH) {
+        match line {
+            [letter, b' ', b' ', b' ', b' ', b'\n'] if above && !text.is_empty() => {
+                text.push(*letter);
+                text.extend_from_within(text.len() - LINE_LENGTH..text.len() - 1);
+            }
+            [_, b' ', b' ', b' ', b' ', b'\n'] if !above => {}
+            _ => text.extend(line),
+        }
+    }
+    text
+}
+
 /// The lines that a version takes for the journal's.
 fn journal_as_taken(fault: Fault, journal: &[u8]) -> Vec<u8> {
     let whole = journal.len() - journal.len() % LINE_LENGTH;
@@ -232,6 +281,8 @@ fn journal_as_taken(fault: Fault, journal: &[u8]) -> Vec<u8> {
         Fault::LastLineIsDropped if whole > 0 => journal[..whole - LINE_LENGTH].to_vec(),
         Fault::TailIsALine if whole < journal.len() => [&journal[..whole], &b"??????"[..]].concat(),
         Fault::EmptyJournalIsWrong if journal.is_empty() => b"??????".to_vec(),
+        Fault::BlankIsTheLineAbove => journal_without_blanks(journal, true),
+        Fault::BlankLineIsPassedOver => journal_without_blanks(journal, false),
         _ => journal.to_vec(),
     }
 }
@@ -292,6 +343,10 @@ impl Campaign for Faulty {
             Fault::DIsNoKind => line_of_d(sheet).map_or(answer, |line| pack(0, 1, line)),
             Fault::DIsFirm => check_without_d(sheet, Kind::Repeatable),
             Fault::DIsExposed => check_without_d(sheet, Kind::Returnable),
+            Fault::BlankOnASheetIsZero
+            | Fault::BlankLinksAreNone
+            | Fault::BlankBookingIsDue
+            | Fault::BlankDeskIsTheFirst => calls::check(&with_blanks_filled(self.0, sheet)),
             Fault::OneLineFeedTooManyIsRead if sheet.ends_with(b"\n\n") => {
                 calls::check(&sheet[..sheet.len() - 1])
             }
@@ -488,6 +543,8 @@ fn wrong_restarts_are_found() {
         LeadingZerosAreRead,
         SmallLettersAreRead,
         BlankInANumberIsPassedOver,
+        BlankIsTheLineAbove,
+        BlankLineIsPassedOver,
     ];
     let replays = [ReplayEndsWithALostWay, ReplayReturnsInAnyOrder, ReplayHasNoThirdWay];
     let states = [
@@ -527,6 +584,10 @@ fn wrong_checks_are_found() {
         RepeatablesLeftOutOfS,
         RefugeMayHaveLostPivot,
         OneLineFeedTooManyIsRead,
+        BlankOnASheetIsZero,
+        BlankLinksAreNone,
+        BlankBookingIsDue,
+        BlankDeskIsTheFirst,
         StrandingPlaceTurnedRound,
         DIsNoKind,
         DIsFirm,

@@ -184,7 +184,7 @@ const FEWEST_JOURNALS: u64 = 120_000;
 const FEWEST_BLOCKS: u64 = 120_000;
 
 /// So many reports of settlements are compared before the rounds.
-const FEWEST_SETTLED: u64 = 30_000;
+const FEWEST_SETTLED: u64 = 80_000;
 
 /// So many orders are passed over in campaigns with desks before the rounds.
 const FEWEST_PASSED_OVER: u64 = 60_000;

@@ -28,7 +28,7 @@ const FEW: [&[u8]; 7] =
 const JUDGED: &str = "blocks: judged line by line";
 
 /// What must have been met so often before the rounds, or too little was shown.
-const FEWEST: [(&str, u64); 14] = [
+const FEWEST: [(&str, u64); 15] = [
     (JUDGED, 100_000),
     ("blocks: all of one or two lines", 150_000),
     ("blocks: taken whole", 10_000),
@@ -42,6 +42,7 @@ const FEWEST: [(&str, u64); 14] = [
     ("blocks: state not sound", 2_000),
     ("blocks: handed in by a campaign", 5_000),
     ("blocks: restarted from their lines", 4_000),
+    ("blocks: a blank for the number", 100),
     ("campaigns to the end with replies in blocks alone", 500),
 ];
 

@@ -102,11 +102,12 @@ impl Line<'_> {
         let zeros = [format!("{b:04}"), format!(" {b:03}"), format!("  {b:02}")];
         let split = format!(" {} {}", b / 10, b % 10);
         let blanks = [format!("{b:<4}"), format!("{b:3} "), format!("{b:<3} "), format!(" {b:<3}"), split];
-        let others = ["    ", " 1 1", "1  1", "1 1 ", "  +1", "  -1", "\t  1", " 0 1", "   \n", "  1\n"];
+        let others = [" 1 1", "1  1", "1 1 ", "  +1", "  -1", "\t  1", " 0 1", "   \n", "  1\n"];
         let zeros = zeros.iter().filter_map(|columns| self.with_columns("a leading zero", columns));
         let blanks = blanks.iter().filter_map(|columns| self.with_columns("a number with a blank", columns));
         let others = others.iter().filter_map(|columns| self.with_columns("no number", columns));
-        zeros.chain(blanks).chain(others).collect()
+        let blank = self.with_columns("a blank for the number", "    ");
+        zeros.chain(blanks).chain(others).chain(blank).collect()
     }
 
     /// A byte too few or too many: all that follows stands beside its columns.

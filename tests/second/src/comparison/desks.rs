@@ -5,6 +5,7 @@ use super::journals::case_of;
 use super::lent::Lent;
 use super::record::Record;
 use super::replies::{open_orders, right_block};
+use super::sheets::BLANK_FIELD;
 use super::{Call, Case, Comparison, Outcome};
 use crate::calls::{kind_of, pack, place_of, refusal_of, ACCEPTED, REFUSED, REQUEST, RETURN, WAIT};
 use crate::check::Network;
@@ -31,7 +32,7 @@ const MISFORMED_DESK: &str = "desks: sheets refused for a desk, 1";
 const ABOVE: &str = "desks: states above the limit and else sound";
 
 /// What must have been met so often before the rounds, or too little was shown.
-const FEWEST: [(&str, u64); 10] = [
+const FEWEST: [(&str, u64); 11] = [
     (PASSED_OVER, 10_000),
     (LOWER_RETURN, 300),
     (LOWER_REQUEST, 2_000),
@@ -42,6 +43,7 @@ const FEWEST: [(&str, u64); 10] = [
     (WRONG_DESK, 1_000),
     (MISFORMED_DESK, 1_000),
     (ABOVE, 2_000),
+    (BLANK_FIELD, 400),
 ];
 
 /// Many bookings beside each other, so that desks fill up with requests and, when

@@ -2,6 +2,7 @@
 //! same 32 bits, the same bytes of state, and no other byte changed.
 
 pub mod blocks;
+mod choices;
 mod damage;
 pub mod desks;
 mod every;

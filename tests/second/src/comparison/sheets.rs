@@ -7,6 +7,9 @@ use crate::flights::{self, Flight};
 use crate::generate;
 use crate::plan;
 
+/// A field of a sheet was left blank.
+pub const BLANK_FIELD: &str = "sheets: a field left blank";
+
 impl Comparison<'_> {
     pub fn fixed_part(&mut self, seed: u64) -> Outcome {
         let mut dice = Dice::new(seed);
@@ -15,6 +18,7 @@ impl Comparison<'_> {
         }
         for flight in flights::named() {
             self.damage_everywhere(&flight, &mut dice)?;
+            self.blank_everywhere(&flight, &mut dice)?;
         }
         self.damage_longest(&mut dice)?;
         self.every_kind()?;
@@ -61,6 +65,30 @@ impl Comparison<'_> {
         }
         for more in ["\n", " ", "A", "A   1   1\n", "\0", "P   1   0   1   1\n"] {
             self.compare_sheet(&Case::new(&[sheet, more.as_bytes()].concat()), dice)?;
+        }
+        Ok(())
+    }
+
+    /// Each field of a sheet that can be read left blank: its line is not of its form.
+    fn blank_everywhere(&mut self, flight: &Flight, dice: &mut Dice) -> Outcome {
+        self.part = format!("blank fields on flight \"{}\"", flight.name);
+        if plan::read(&flight.sheet).is_err() {
+            return Ok(());
+        }
+        let mut begin = 0;
+        for (line, text) in (1..).zip(flight.sheet.split_inclusive(|&byte| byte == b'\n')) {
+            for field in generate::fields_of(&text[..text.len() - 1]) {
+                let mut damaged = flight.sheet.clone();
+                damaged[begin + field..begin + field + 4].fill(b' ');
+                let case = Case::new(&damaged);
+                self.tally.event(BLANK_FIELD);
+                let answer = self.call(&case, &mut Vec::new(), Call::Check)?;
+                if answer != calls::pack(calls::REFUSED, 1, line) {
+                    return Err(self.report(&case, &[], "a blank field is not of its form\n"));
+                }
+                self.compare_sheet(&case, dice)?;
+            }
+            begin += text.len();
         }
         Ok(())
     }
