@@ -1,15 +1,15 @@
 -- A field inside a line: what a reader that goes on from field to field has in hand.
 -- Assumes nothing.
-use Prim.Native.Nat.{ℕ, suc, _+_, _*_, _%_, _^_, _≤_, _<_}
+use Prim.Native.Nat.{ℕ, _+_, _^_, _<_}
 use mathlib.Core.Path.{_≡_, sym, ap, _∙_}
 use mathlib.Core.Logic.{inl, inr}
 use mathlib.Core.List.{List, [], _∷_, _++_}
 use native.Mathlib.Omega.{arith}
 use types.Run.{OneOf}
 use denote.Enum.Declared.{tagOf}
-use lib.ListN.{getD, take, drop, take-append-drop}
-use lib.Seq.{drop-drop, take-at, getD-take, getD-drop}
-use Rattle.decimal.specs.Decimal.{columns, valueOf, fieldText, fieldAt, numberAt}
+use lib.ListN.{take, drop, take-append-drop}
+use lib.Seq.{drop-drop, take-at}
+use Rattle.decimal.specs.Decimal.{columns, fieldText, fieldAt, numberAt}
 use Rattle.decimal.specs.declared.Field.{Field}
 use Rattle.decimal.specs.declared.Field.the-variants.{Number, Blank, Fault}
 use Rattle.decimal.proofs.Field.{the-type}

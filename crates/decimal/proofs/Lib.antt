@@ -4,3 +4,4 @@ pub mod Laws
 pub mod Stores
 pub mod Fields
 pub mod Numbers
+pub mod Rows

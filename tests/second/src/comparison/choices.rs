@@ -7,11 +7,15 @@ use super::settlements::{length_of, old_bytes, plan_of, Papers};
 use super::{Case, Comparison, Outcome};
 use crate::calls::place_of;
 use crate::dice::Dice;
+use crate::journal::LINE_LENGTH;
 use crate::plan::Plan;
 use crate::written_settlements::Ends;
+use std::fmt::Debug;
 
 /// A choice of fees landed between the columns.
 pub const CHOSEN: &str = "settlements: a choice within the quotes";
+/// Fees that were chosen anew for each line of the journal landed between the columns.
+pub const EACH: &str = "settlements: a choice for each line of the journal";
 /// The least fees, or the greatest, came to one of the columns.
 pub const ENDS: &str = "settlements: an end of all quotes reached";
 
@@ -67,6 +71,28 @@ impl Report {
         let between = |(ends, cost): (&Ends, &Ends)| cost.0 == cost.1 && ends.0 <= cost.0 && cost.0 <= ends.1;
         self.counts == chosen.counts && self.costs.iter().zip(&chosen.costs).all(between)
     }
+
+    /// Whether amounts, one for each booking, and their sum lie between the columns.
+    fn encloses(&self, amounts: &[usize]) -> bool {
+        let between = |ends: &Ends, amount: usize| ends.0 <= amount && amount <= ends.1;
+        let total = self.costs.last().is_some_and(|ends| between(ends, amounts.iter().sum()));
+        total && self.costs.iter().zip(amounts).all(|(ends, &amount)| between(ends, amount))
+    }
+}
+
+/// What each booking comes to where each of its lines has a fee of its own within the quotes.
+fn charged_each(dice: &mut Dice, fees: &[Fee], journal: &[u8]) -> Vec<usize> {
+    let mut amounts = vec![0; fees.len()];
+    for line in journal.chunks_exact(LINE_LENGTH) {
+        let booking: usize = std::str::from_utf8(&line[1..5]).unwrap().trim().parse().unwrap();
+        let fee = fees[booking - 1];
+        amounts[booking - 1] += match line[0] {
+            b'Y' => fees::any_within(dice, fee.confirmation),
+            b'G' => fees::any_within(dice, fee.returning),
+            _ => 0,
+        };
+    }
+    amounts
 }
 
 /// Of each quote one end alone.
@@ -87,7 +113,8 @@ impl Comparison<'_> {
     }
 
     /// Fees that are chosen within the quotes come to what lies between the columns of the first
-    /// version's report; all the least and all the greatest come to the columns themselves.
+    /// version's report, also those of each line alone; all the least and all the greatest come
+    /// to the columns themselves.
     pub fn choices(&mut self, case: &Case, record: &Record, fees: &[Fee], dice: &mut Dice) -> Outcome {
         let quoted = self.read_back(case, record, fees)?;
         for end in [|ends: Ends| ends.0, |ends: Ends| ends.1] {
@@ -99,11 +126,14 @@ impl Comparison<'_> {
             let chosen = self.read_back(case, record, &fees::choice(dice, fees))?;
             self.tally.event(CHOSEN);
             self.demand_alike(quoted.has_between(&chosen), &quoted, &chosen)?;
+            let amounts = charged_each(dice, fees, &record.journal);
+            self.tally.event(EACH);
+            self.demand_alike(quoted.encloses(&amounts), &quoted, &amounts)?;
         }
         Ok(())
     }
 
-    fn demand_alike(&self, holds: bool, quoted: &Report, chosen: &Report) -> Outcome {
+    fn demand_alike(&self, holds: bool, quoted: &Report, chosen: &impl Debug) -> Outcome {
         if holds {
             return Ok(());
         }
@@ -158,5 +188,33 @@ T          50          75
         }
         assert!(!report.has_between(&report));
         assert!(report.at(|ends| ends.0).has_between(&report.at(|ends| ends.0)));
+    }
+
+    #[test]
+    fn each_line_has_a_fee_of_its_own() {
+        let journal = b"Q   1\nY   1\nU   1\nK   1\nU   1\nG   1\nQ   2\nN   2\nQ   1\nY   1\n";
+        let fee = |quote: Quote| Fee { confirmation: quote, returning: Quote::of(1_000) };
+        let fees = [fee(Quote::between(1, 9)), fee(Quote::between(20, 90))];
+        let mut met = std::collections::BTreeSet::new();
+        for seed in 0..400 {
+            let amounts = charged_each(&mut Dice::new(seed), &fees, journal);
+            assert_eq!(amounts[1], 0);
+            met.insert(amounts[0]);
+        }
+        assert_eq!(met, (1_002..=1_018).collect());
+    }
+
+    #[test]
+    fn amounts_and_their_sum_lie_between_the_columns() {
+        let report = read(REPORT).unwrap();
+        for amounts in [[50, 0], [75, 0], [60, 0]] {
+            assert!(report.encloses(&amounts));
+        }
+        for amounts in [[49, 0], [76, 0], [60, 1]] {
+            assert!(!report.encloses(&amounts));
+        }
+        let total = Report { counts: vec![], costs: vec![(0, 9), (0, 9), (3, 8)] };
+        assert!(total.encloses(&[3, 5]));
+        assert!(!total.encloses(&[3, 6]) && !total.encloses(&[1, 1]));
     }
 }

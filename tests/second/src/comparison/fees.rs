@@ -96,15 +96,20 @@ pub fn unlike_fees(n: usize) -> Vec<Fee> {
     (1..=n).map(fee).collect()
 }
 
-/// One fee within each quote; at the ends now and then.
+/// A fee within a quote; at an end now and then.
+pub fn any_within(dice: &mut Dice, quote: Quote) -> usize {
+    let (least, greatest) = quote.ends();
+    match dice.below(4) {
+        0 => least,
+        1 => greatest,
+        _ => dice.between(least, greatest),
+    }
+}
+
+/// One fee within each quote.
 pub fn choice(dice: &mut Dice, fees: &[Fee]) -> Vec<Fee> {
     let mut chosen = |quote: Quote| {
-        let (least, greatest) = quote.ends();
-        let fee = match dice.below(4) {
-            0 => least,
-            1 => greatest,
-            _ => dice.between(least, greatest),
-        };
+        let fee = any_within(dice, quote);
         if dice.percent(50) {
             Quote::of(fee)
         } else {
