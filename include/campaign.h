@@ -439,8 +439,8 @@ uint32_t campaign_restart(const uint8_t *sheet, size_t sheet_len,
  * twelve columns each, a line feed. Each booking of the way counts once there,
  * whatever the journal says. Then T and the total at the least and at the
  * greatest fees in twelve columns each, a line feed. Whatever each fee comes to
- * within its quote, the amount, sum or total lies between the two, and both can
- * be reached.
+ * within its quote, also if it changes from one time to the next, the amount, sum
+ * or total lies between the two, and both can be reached.
  *
  * By the fees above, on the sheet of the flight with a tanker: the range slot was
  * confirmed, the tanker refused, and the range slot returned.

@@ -2,3 +2,4 @@
 pub mod Rated
 pub mod Exits
 pub mod Accepted
+pub mod Shown

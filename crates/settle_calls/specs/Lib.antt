@@ -1,2 +1,3 @@
 -- The definitions of crate `settle_calls`.
 pub mod Settle
+pub mod Shown

@@ -31,7 +31,7 @@ module _ (s fees j d : List ℕ) (room : longestReport ≤ length d) (bits : ℕ
       → (n ≡ length (settledText s fees j)) × (out ≡ sets d 0 (settledText s fees j))
   unfolding settledText kindOf pack
   printed z n p out q = elim (which (settles s fees j)) [
-    | inl t ↦ (let y = e ∙ settled-answer s fees j t d room in absurd (omega arith))
+    | inl t ↦ (let y = e ∙ settled-answer s fees j t d (omega (arith, report-small s fees j t)) in absurd (omega arith))
     | inr t ↦
         (let y : bits ≡ settleCall s fees j longestReport = e ∙ refusal-same s fees j t (length d) longestReport in
         (rw (t, ← y) p, rw (t, ← y) (q ∙ ap (λ (x : List ℕ). sets x 0 (printedText bits)) (f ∙ refusal-left s fees j t d))))
@@ -42,9 +42,9 @@ module _ (s fees j d : List ℕ) (room : longestReport ≤ length d) (bits : ℕ
   unfolding settledText kindOf placeOf pack
   billed z n p = elim (which (settles s fees j)) [
     | inl t ↦
-        (let y = e ∙ settled-answer s fees j t d room in
-        let l = report-small s fees j t in
-        (rw t (omega arith), rw t (f ∙ settled-left s fees j t d room)))
+        (let l = report-small s fees j t in
+        let y = e ∙ settled-answer s fees j t d (omega arith) in
+        (rw t (omega arith), rw t (f ∙ settled-left s fees j t d (omega arith))))
     | inr t ↦ (let y = refusal-low s fees j t (length d) in absurd (z (omega arith)))
   ]
 
