@@ -303,6 +303,10 @@ uint32_t campaign_next_order(const uint8_t *sheet, size_t sheet_len,
  * calling off begins. Refused with 1 to 8, 11 or 9. Hand each reply in once:
  * a copy is refused with 9 as long as the booking has no open order, but if the
  * same booking has been ordered again meanwhile, the copy answers that order.
+ *
+ * Replies to different bookings may come in any order, as long as no next order
+ * is asked for between them: each gets the same answer, and together they leave
+ * the same state. Of two replies to one booking the first counts.
  */
 uint32_t campaign_reply(const uint8_t *sheet, size_t sheet_len,
                         uint8_t *state, size_t state_len,
@@ -321,7 +325,9 @@ uint32_t campaign_reply(const uint8_t *sheet, size_t sheet_len,
  * changes. Else refused for the first bad line, with that line as place: with
  * 1 if it is not of its form or the block ends within it, with 9 if the reply
  * does not fit or there is no such letter or booking. The replies before the
- * bad line stay taken; it and all after it count as not given.
+ * bad line stay taken; it and all after it count as not given. The lines of a
+ * block that is accepted and names different bookings could have stood in any
+ * order: answer and state would be the same.
  *
  * The sheet is read and checked once, so a block costs as much as one reply or
  * two. Between two orders a booking has at most one reply that fits: a block

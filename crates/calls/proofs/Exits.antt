@@ -125,6 +125,14 @@ module _ (s : List ℕ) where
 
 -- ---- a step on a campaign
 
+-- where the sheet is refused or the state is not sound, so is the call, and it leaves the state
+pub refused-asked : (s bs : List ℕ) → inOrder s bs ≡ false → (q : Asked) → (refusedWith s ≡ askedCall s bs q) × (bs ≡ askedLeaves s bs q)
+unfolding inOrder refusedWith askedCall askedLeaves callBits callBytes
+refused-asked s bs o q = elim (which (sheetPasses s)) [
+  | inl p ↦ (let u : soundBytes (networkIn s) bs ≡ false = rw p at o in (rw (p, u), rw (p, u)))
+  | inr p ↦ (rw p, rw p)
+]
+
 module _ (s bs : List ℕ) (c : Campaign) (e : c ≡ takenUp s bs) where
   order-is : c .sound ≡ inOrder s bs
   unfolding takenUp turnedAway
@@ -140,13 +148,10 @@ module _ (s bs : List ℕ) (c : Campaign) (e : c ≡ takenUp s bs) where
   not-taken n = let o : inOrder s bs ≡ false = sym order-is ∙ not-true (c .sound) n in (o, ap (λ (x : Campaign). x .bits) e ∙ rw o)
 
   pub asked-refused : not (c .sound) ≡ true → (q : Asked) → (c .bits ≡ askedCall s bs q) × (bs ≡ askedLeaves s bs q)
-  unfolding inOrder refusedWith askedCall askedLeaves callBits callBytes
   asked-refused n q =
       let (o, b) = not-taken n in
-      elim (which (sheetPasses s)) [
-        | inl p ↦ (let u : soundBytes (networkIn s) bs ≡ false = rw p at o in (b ∙ rw (p, u), rw (p, u)))
-        | inr p ↦ (b ∙ rw p, rw p)
-      ]
+      let t = refused-asked s bs o q in
+      (b ∙ t .0, t .1)
 
   -- it is taken up
   module _ (n : not (c .sound) ≡ false) where

@@ -11,4 +11,6 @@ pub mod Ends
 pub mod Bytes
 pub mod Whole
 pub mod Plans
+pub mod Rearranged
+pub mod AnyOrder
 pub mod Flights

@@ -85,13 +85,21 @@ calledOff = pack 5 0 0
 unfoldable pub checked : List ℕ → List Link → List (List ℕ) → ℕ → Flight
 checked ks ls ws x = record { plan = planOf ks ls ws; calls = []; expected = x ∷ [] }
 
--- a plan that passes and is run
+-- a plan that passes and is run, with links and without
+unfoldable pub withLinks : List ℕ → List Link → List (List ℕ) → List Asked → List ℕ → Flight
+withLinks ks ls ws qs xs = record { plan = planOf ks ls ws; calls = qs; expected = passes ∷ xs }
+
 unfoldable pub flown : List ℕ → List (List ℕ) → List Asked → List ℕ → Flight
-flown ks ws qs xs = record { plan = planOf ks [] ws; calls = qs; expected = passes ∷ xs }
+flown ks ws qs xs = withLinks ks [] ws qs xs
 
 -- a plan with desks that is run
 unfoldable pub limited : List ℕ → ℕ → List ℕ → List (List ℕ) → List Asked → List ℕ → Flight
 limited ds limit ks ws qs xs = record { plan = plannedAt ds limit ks [] ws; calls = qs; expected = passes ∷ xs }
+
+-- a chase aircraft, a slot, and a tanker after the slot; all three, the slot alone, or the slot and the tanker. The first two are requested
+unfoldable pub chased : List Asked → List ℕ → Flight
+chased qs xs =
+    withLinks (C ∷ C ∷ P ∷ []) (link 2 3 ∷ []) ((1 ∷ 2 ∷ 3 ∷ []) ∷ (2 ∷ []) ∷ (2 ∷ 3 ∷ []) ∷ []) (nextOrder ∷ nextOrder ∷ qs) (request 1 ∷ request 2 ∷ xs)
 
 unfoldable pub flights : List Flight
 flights =
@@ -140,4 +148,13 @@ flights =
     ∷ limited (1 ∷ 1 ∷ 2 ∷ []) 1 (C ∷ C ∷ C ∷ []) ((1 ∷ 2 ∷ 3 ∷ []) ∷ [])
     (nextOrder ∷ replied Y 1 ∷ nextOrder ∷ replied Y 2 ∷ nextOrder ∷ replied N 3 ∷ nextOrder ∷ nextOrder ∷ replied G 1 ∷ nextOrder ∷ replied G 2 ∷ nextOrder ∷ [])
     (request 1 ∷ accepted 1 ∷ request 2 ∷ accepted 2 ∷ request 3 ∷ accepted 3 ∷ return 1 ∷ waits ∷ accepted 1 ∷ return 2 ∷ accepted 2 ∷ calledOff ∷ [])
+    -- two replies to one booking: the first counts and the second does not fit, so it matters which comes first
+    ∷ flown (C ∷ []) ((1 ∷ []) ∷ []) (nextOrder ∷ replied Y 1 ∷ replied N 1 ∷ nextOrder ∷ []) (request 1 ∷ accepted 1 ∷ refuses 9 1 ∷ flownBy 1 ∷ [])
+    ∷ flown (C ∷ []) ((1 ∷ []) ∷ []) (nextOrder ∷ replied N 1 ∷ replied Y 1 ∷ nextOrder ∷ []) (request 1 ∷ accepted 1 ∷ refuses 9 1 ∷ calledOff ∷ [])
+    -- the chase aircraft is refused and the slot confirmed: in either order the slot alone is flown
+    ∷ chased (replied N 1 ∷ replied Y 2 ∷ nextOrder ∷ []) (accepted 1 ∷ accepted 2 ∷ flownBy 2 ∷ [])
+    ∷ chased (replied Y 2 ∷ replied N 1 ∷ nextOrder ∷ []) (accepted 2 ∷ accepted 1 ∷ flownBy 2 ∷ [])
+    -- with an order taken between them it matters: after the refusal there is none to give, after the slot the tanker is requested, and flies
+    ∷ chased (replied N 1 ∷ nextOrder ∷ replied Y 2 ∷ nextOrder ∷ []) (accepted 1 ∷ waits ∷ accepted 2 ∷ flownBy 2 ∷ [])
+    ∷ chased (replied Y 2 ∷ nextOrder ∷ replied N 1 ∷ replied Y 3 ∷ nextOrder ∷ []) (accepted 2 ∷ request 3 ∷ accepted 1 ∷ accepted 3 ∷ flownBy 3 ∷ [])
     ∷ []

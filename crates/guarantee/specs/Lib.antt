@@ -5,4 +5,5 @@ pub mod Calls
 pub mod Counted
 pub mod Demand
 pub mod Guarantee
+pub mod AnyOrder
 pub mod Flights

@@ -62,8 +62,8 @@ module _ (g : Network) where
   next-bad zero r t l b h q = absurd (omega arith)
   next-bad (suc n) r t l b h q = by-line n r t l b (λ s. next-bad n s (drop 6 t) l b) (lineOf (take 6 t)) refl h q
 
-module _ (s bs : List ℕ) (o : inOrder s bs ≡ true) (lines : List ℕ) where
-  passes : sheetPasses s ≡ true
+module _ (s bs : List ℕ) (o : inOrder s bs ≡ true) where
+  pub passes : sheetPasses s ≡ true
   unfolding inOrder
   passes = and-l (sheetPasses s) _ o
 
@@ -79,48 +79,49 @@ module _ (s bs : List ℕ) (o : inOrder s bs ≡ true) (lines : List ℕ) where
   abbrev old : Run
   old = runOf bs
 
-  old-sound : Sound (networkIn s) old
+  pub old-sound : Sound (networkIn s) (runOf bs)
   unfolding soundBytes
   old-sound = sound-e (networkIn s) (passing s passes .shape) old (codes-size bs size) (and-r (eqb (length bs) 65) _ state-sound)
 
-  bytes : bytesOf old ≡ bs
+  pub bytes : bytesOf (runOf bs) ≡ bs
   bytes = bytes-run bs size
 
-  abbrev kept : List Asked
-  kept = parts (networkIn s) old (block lines)
+  module _ (lines : List ℕ) where
+    abbrev kept : List Asked
+    kept = parts (networkIn s) old (block lines)
 
-  bits : gives s bs (block lines) ≡ givesBy (networkIn s) old (block lines)
-  bits = ap (λ (xs : List ℕ). gives s xs (block lines)) (sym bytes) ∙ gives-is s passes old old-sound (block lines)
+    bits : gives s bs (block lines) ≡ givesBy (networkIn s) old (block lines)
+    bits = ap (λ (xs : List ℕ). gives s xs (block lines)) (sym bytes) ∙ gives-is s passes old old-sound (block lines)
 
-  left : leaves s bs (block lines) ≡ bytesOf (leavesBy (networkIn s) old (block lines))
-  left = ap (λ (xs : List ℕ). leaves s xs (block lines)) (sym bytes) ∙ leaves-is s passes old old-sound (block lines)
+    left : leaves s bs (block lines) ≡ bytesOf (leavesBy (networkIn s) old (block lines))
+    left = ap (λ (xs : List ℕ). leaves s xs (block lines)) (sym bytes) ∙ leaves-is s passes old old-sound (block lines)
 
-  calls : callsIn (block lines) (gives s bs (block lines)) ≡ kept
-  calls = rw bits (calls-told (networkIn s) (passing s passes) old old-sound (block lines))
+    calls : callsIn (block lines) (gives s bs (block lines)) ≡ kept
+    calls = rw bits (calls-told (networkIn s) (passing s passes) old old-sound (block lines))
 
-  answers : answersIn (block lines) (gives s bs (block lines)) ≡ machineAnswers (networkIn s) old kept
-  answers = rw bits (answers-told (networkIn s) (passing s passes) old old-sound (block lines))
+    answers : answersIn (block lines) (gives s bs (block lines)) ≡ machineAnswers (networkIn s) old kept
+    answers = rw bits (answers-told (networkIn s) (passing s passes) old old-sound (block lines))
 
-  -- the state after the block
-  abbrev new : Run
-  new = leavesBy (networkIn s) old (block lines)
+    -- the state after the block
+    abbrev new : Run
+    new = leavesBy (networkIn s) old (block lines)
 
-  told : keptBy (gives s bs (block lines)) ≡ length kept
-  unfolding givesBy parts
-  told = rw bits (told-kept (networkIn s) (passing s passes) old old-sound lines)
+    told : keptBy (gives s bs (block lines)) ≡ length kept
+    unfolding givesBy parts
+    told = rw bits (told-kept (networkIn s) (passing s passes) old old-sound lines)
 
-  next-refused : 6 * length kept < length lines → (l b : ℕ) → lineOf (take 6 (drop (6 * length kept) lines)) ≡ Given l b → accepts (askedCall s (bytesOf new) (replied l b)) ≡ false
-  unfolding parts linesOf gives givesBy leavesBy blockOf answer replyBits accepts
-  next-refused h l b q =
-      let n : replyTo (networkIn s) new l b .taken ≡ false = next-bad (networkIn s) ((length lines + 5) / 6) old lines l b (omega arith) q in
-      let k = sound-after (networkIn s) (passing s passes) old old-sound (block lines) in
-      rw (gives-is s passes new k (single (replied l b)), n, kind-pack 0 9 (place9 b) (omega arith) (omega (arith, small-9 b)))
+    next-refused : 6 * length kept < length lines → (l b : ℕ) → lineOf (take 6 (drop (6 * length kept) lines)) ≡ Given l b → accepts (askedCall s (bytesOf new) (replied l b)) ≡ false
+    unfolding parts linesOf gives givesBy leavesBy blockOf answer replyBits accepts
+    next-refused h l b q =
+        let n : replyTo (networkIn s) new l b .taken ≡ false = next-bad (networkIn s) ((length lines + 5) / 6) old lines l b (omega arith) q in
+        let k = sound-after (networkIn s) (passing s passes) old old-sound (block lines) in
+        rw (gives-is s passes new k (single (replied l b)), n, kind-pack 0 9 (place9 b) (omega arith) (omega (arith, small-9 b)))
 
-  pub given-singly : GivenSingly s bs lines
-  given-singly =
-      let g : Network = networkIn s in
-      record {
-        accepted = rw (calls, answers) (ap (λ (xs : List ℕ). answersOn s xs (singles kept)) (sym bytes) ∙ answers-is s passes old old-sound (singles kept) ∙ singles-answers g old kept);
-        state = rw (calls, left) (ap (λ (xs : List ℕ). leftOn s xs (singles kept)) (sym bytes) ∙ left-is s passes old old-sound (singles kept) ∙ ap bytesOf (singles-final g old kept ∙ parts-final g old (block lines)));
-        next = rw (told, left) next-refused;
-      }
+    pub given-singly : GivenSingly s bs lines
+    given-singly =
+        let g : Network = networkIn s in
+        record {
+          accepted = rw (calls, answers) (ap (λ (xs : List ℕ). answersOn s xs (singles kept)) (sym bytes) ∙ answers-is s passes old old-sound (singles kept) ∙ singles-answers g old kept);
+          state = rw (calls, left) (ap (λ (xs : List ℕ). leftOn s xs (singles kept)) (sym bytes) ∙ left-is s passes old old-sound (singles kept) ∙ ap bytesOf (singles-final g old kept ∙ parts-final g old (block lines)));
+          next = rw (told, left) next-refused;
+        }

@@ -183,6 +183,9 @@ const FEWEST_JOURNALS: u64 = 120_000;
 /// So many blocks are compared line by line before the rounds.
 const FEWEST_BLOCKS: u64 = 120_000;
 
+/// So many pairs of replies, and so many blocks, are compared in two orders before the rounds.
+const FEWEST_ORDERS: u64 = 100_000;
+
 /// So many reports of settlements are compared before the rounds.
 const FEWEST_SETTLED: u64 = 80_000;
 
@@ -215,8 +218,8 @@ fn options() -> Option<Options> {
     Some(options)
 }
 
-/// What was answered before desks, the fixed part, the desks, the journals, the blocks, the settlements, then
-/// rounds until their number or the time is used up.
+/// What was answered before desks, the fixed part, the desks, the journals, the blocks, any order,
+/// the settlements, then rounds until their number or the time is used up.
 fn compare(comparison: &mut Comparison, options: &Options) -> Outcome<u64> {
     let began = Instant::now();
     comparison.old_cases()?;
@@ -233,6 +236,10 @@ fn compare(comparison: &mut Comparison, options: &Options) -> Outcome<u64> {
         comparison.every_small_block()?;
         comparison.enough_blocks()?;
         println!("with the blocks: {:.1} s", began.elapsed().as_secs_f64());
+        comparison.any_order(options.seed, FEWEST_ORDERS)?;
+        comparison.every_small_pair()?;
+        comparison.enough_orders()?;
+        println!("with replies in any order: {:.1} s", began.elapsed().as_secs_f64());
         comparison.settlements(options.seed, FEWEST_SETTLED)?;
         comparison.enough_settlements()?;
         println!("with the settlements: {:.1} s", began.elapsed().as_secs_f64());

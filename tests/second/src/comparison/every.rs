@@ -148,6 +148,20 @@ impl Comparison<'_> {
         Ok(())
     }
 
+    /// From every sound state of plans of two and of three bookings, every pair
+    /// of replies to different bookings.
+    pub fn every_small_pair(&mut self) -> Outcome {
+        for plan in plans(2).into_iter().chain(three_beside()) {
+            let case = Case::new(plan::write(&plan).as_bytes());
+            let Some(network) = case.network() else { continue };
+            self.part = format!("every pair of replies on every plan of {} bookings", plan.count());
+            for state in states(&plan).into_iter().filter(|state| run::is_sound(network, state)) {
+                self.every_pair(&case, &plan, &state)?;
+            }
+        }
+        Ok(())
+    }
+
     fn every_call(&mut self, case: &Case, plan: &Plan, state: &[u8]) -> Outcome {
         self.call(case, &mut state.to_vec(), Call::NextOrder)?;
         for booking in plan.bookings() {

@@ -1,6 +1,7 @@
 //! The comparison of a first version of the eight calls with this one: the
 //! same 32 bits, the same bytes of state, and no other byte changed.
 
+pub mod any_order;
 pub mod blocks;
 mod choices;
 mod damage;
@@ -292,6 +293,7 @@ impl<'a> Comparison<'a> {
             let record = self.campaign(&case, &mut dice)?;
             self.some_journals(&case, &record, &mut dice)?;
             self.some_blocks(&case, &record, &mut dice)?;
+            self.some_orders(&case, &record, &mut dice)?;
             self.some_above_the_limit(&case, &record, &mut dice)?;
             for _ in 0..2 {
                 self.campaign(&case, &mut dice)?;

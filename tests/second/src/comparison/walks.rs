@@ -63,7 +63,7 @@ fn any_letter(dice: &mut Dice) -> u8 {
 
 /// Any letter with any booking; bookings that could be mistaken for good ones
 /// when cut to fewer bits are likely.
-fn any_reply(dice: &mut Dice, n: usize) -> Call {
+pub fn any_reply(dice: &mut Dice, n: usize) -> Call {
     let letter = any_letter(dice);
     let good = dice.between(1, n) as u32;
     let booking = match dice.below(10) {

@@ -1,0 +1,3 @@
+-- The laws and the theorem of crate `any_order`.
+pub mod Blocks
+pub mod AnyOrder

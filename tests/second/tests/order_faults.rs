@@ -1,0 +1,119 @@
+//! Wrong versions of reply for which it matters which reply comes first: the comparison must find
+//! each by that alone, without the second version.
+
+use second::calls::{self, pack, ACCEPTED, REFUSED};
+use second::check::Network;
+use second::comparison::any_order::ORDER_MATTERS;
+use second::comparison::{Campaign, Comparison, Second};
+use second::run::{self, State, LOST, REQUESTED, RETURNING};
+
+/// The second version itself, but for one fault.
+#[derive(Clone, Copy, Debug, PartialEq)]
+enum Fault {
+    Faultless,
+    // The way is changed at the first refusal, though another request is open.
+    SwitchesAtOnce,
+    // It is changed only if the last reply is a refusal.
+    SwitchesAfterNoAlone,
+    // After a refusal nothing is confirmed any more.
+    ClosedByARefusal,
+    // One return closes all.
+    ReturnsTogether,
+    // A reply is refused while a lower booking's is due.
+    LowestFirst,
+}
+
+use Fault::*;
+
+struct Faulty(Fault);
+
+/// What the faulty version makes of a reply that fits, or nothing.
+fn replied(fault: Fault, network: &Network, before: State, letter: u8, booking: usize) -> Option<State> {
+    let mut state = run::reply(network, before, letter, booking)?;
+    match fault {
+        SwitchesAtOnce if letter == b'N' && state.contains(&REQUESTED) && state[booking] == LOST => {
+            state[0] = 0
+        }
+        SwitchesAfterNoAlone if letter == b'Y' => state[0] = before[0],
+        ClosedByARefusal if letter == b'Y' && before[1..].contains(&LOST) => return None,
+        ReturnsTogether if letter == b'G' => {
+            state[1..].iter_mut().filter(|code| **code == RETURNING).for_each(|code| *code = run::FREE);
+        }
+        LowestFirst if before[1..booking].contains(&before[booking]) => return None,
+        _ => {}
+    }
+    Some(state)
+}
+
+impl Campaign for Faulty {
+    fn reply(&self, sheet: &[u8], state: &mut [u8], letter: u8, booking: u32) -> u32 {
+        let right = calls::reply(sheet, &mut state.to_vec(), letter, booking);
+        if calls::kind_of(right) != ACCEPTED {
+            return right;
+        }
+        let network = calls::judge(sheet).expect("a sheet that passes");
+        let before = State::try_from(&*state).expect("65 bytes");
+        match replied(self.0, &network, before, letter, booking as usize) {
+            Some(after) => state.copy_from_slice(&after),
+            None => return pack(REFUSED, 9, booking),
+        }
+        right
+    }
+
+    fn check(&self, sheet: &[u8]) -> u32 {
+        Second.check(sheet)
+    }
+
+    fn start(&self, sheet: &[u8], state: &mut [u8]) -> u32 {
+        Second.start(sheet, state)
+    }
+
+    fn next_order(&self, sheet: &[u8], state: &mut [u8]) -> u32 {
+        Second.next_order(sheet, state)
+    }
+
+    fn reply_block(&self, sheet: &[u8], block: Option<&[u8]>, state: &mut [u8]) -> u32 {
+        Second.reply_block(sheet, block, state)
+    }
+
+    fn restart(&self, sheet: &[u8], journal: &[u8], state: &mut [u8]) -> u32 {
+        Second.restart(sheet, journal, state)
+    }
+
+    fn journal_line(&self, letter: u8, booking: u32, line: &mut [u8]) -> u32 {
+        Second.journal_line(letter, booking, line)
+    }
+
+    fn settle(
+        &self,
+        sheet: &[u8],
+        fees: Option<&[u8]>,
+        journal: Option<&[u8]>,
+        report: Option<&mut [u8]>,
+    ) -> u32 {
+        Second.settle(sheet, fees, journal, report)
+    }
+}
+
+/// All pairs of replies to different bookings, from all sound states of small plans.
+fn compared(fault: Fault) -> Result<(), String> {
+    Comparison::new(&Faulty(fault), false).every_small_pair()
+}
+
+#[test]
+fn the_second_version_takes_replies_in_any_order() {
+    assert_eq!(compared(Faultless), Ok(()));
+}
+
+#[test]
+fn versions_for_which_the_order_of_replies_matters_are_found() {
+    for fault in [SwitchesAtOnce, SwitchesAfterNoAlone, ClosedByARefusal, ReturnsTogether, LowestFirst] {
+        let told = compared(fault).expect_err(&format!("{fault:?} is not found"));
+        assert!(told.contains(ORDER_MATTERS), "{fault:?} is found by something else:\n{told}");
+    }
+}
+
+#[test]
+fn a_few_pairs_are_too_few() {
+    assert!(Comparison::new(&Second, false).enough_orders().is_err());
+}
