@@ -325,9 +325,9 @@ uint32_t campaign_reply(const uint8_t *sheet, size_t sheet_len,
  * changes. Else refused for the first bad line, with that line as place: with
  * 1 if it is not of its form or the block ends within it, with 9 if the reply
  * does not fit or there is no such letter or booking. The replies before the
- * bad line stay taken; it and all after it count as not given. The lines of a
- * block that is accepted and names different bookings could have stood in any
- * order: answer and state would be the same.
+ * bad line stay taken; it and all after it count as not given. The lines of an
+ * accepted block could have stood in any order: answer and state would be the
+ * same.
  *
  * The sheet is read and checked once, so a block costs as much as one reply or
  * two. Between two orders a booking has at most one reply that fits: a block

@@ -526,6 +526,21 @@ static void campaigns_with_desks(void)
     play(in_header, "Q1W0Y1" "Q2W0Y2" "Q3W0N3" "Q4W0Y4" "E2");
 }
 
+/* 1 chase aircraft, 2 range slot, 3 a tanker after the slot; or the slot alone; or slot and tanker. */
+static const char late[] = "P   3   1   3  64\nB   1 C   3\nB   2 C   1\nB   3 P   2\nL   2   3\n"
+                           "A   3   1   2   3\nA   1   2\nA   2   2   3\n";
+
+/* Replies to different bookings in either order; with an order between them the order matters. */
+static void late_replies(void)
+{
+    play(late, "Q1Q2W0" "N1Y2" "E2");
+    play(late, "Q1Q2W0" "Y2N1" "E2");
+    block(late, "\1\1\1\0\0", "N   1\nY   2\n", CAMPAIGN_ACCEPTED, 0, 2, "\2\3\2\0\0");
+    block(late, "\1\1\1\0\0", "Y   2\nN   1\n", CAMPAIGN_ACCEPTED, 0, 2, "\2\3\2\0\0");
+    play(late, "Q1Q2W0" "N1W0Y2" "E2");
+    play(late, "Q1Q2W0" "Y2Q3N1" "W0Y3" "E3");
+}
+
 /* The state with these first five bytes has a desk with more matters than the limit: 11 comes before 9, nothing changes. */
 static void overloaded(const char *sheet, const char *front)
 {
@@ -617,6 +632,7 @@ int main(void)
     blanks_on_a_sheet();
     longest_sheet();
     campaigns_with_desks();
+    late_replies();
     states_with_desks();
     restarts_with_desks();
     calls();

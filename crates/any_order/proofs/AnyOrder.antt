@@ -1,7 +1,7 @@
 -- Desks in any order: the theorem, for all bytes of a sheet and of a state.
 -- Assumes nothing.
 use mathlib.Core.Path.{_≡_, refl, sym, ap, ap₂, subst, _∙_}
-use mathlib.Core.Logic.{_≢_, inl, inr}
+use mathlib.Core.Logic.{inl, inr}
 use mathlib.Core.Bool.{true, false}
 use mathlib.Core.List.{List, [], _∷_, map}
 use Prim.Native.Nat.{ℕ, _+_, _/_, _≤_}
@@ -9,17 +9,16 @@ use native.Mathlib.Omega.{arith}
 use lib.Dec.{eqb}
 use lib.ListN.{length}
 use borrow.Author.Tests.{eqb-true, ne-eqb}
-use Rattle.bounded.proofs.Bools.{which, clash, and-no-l}
+use Rattle.bounded.proofs.Bools.{which, clash}
 use Rattle.network.specs.declared.Network.{Network}
 use Rattle.verdict.proofs.Facts.{Passes}
-use Rattle.run.specs.Bytes.{bytesOf, runOf, soundBytes}
+use Rattle.run.specs.Bytes.{bytesOf, runOf}
 use Rattle.run.specs.declared.Run.{Run}
 use Rattle.run.proofs.Facts.{Sound}
-use Rattle.event_lines.specs.Line.{lineOf, linesFrom}
+use Rattle.event_lines.specs.Line.{lineOf}
 use Rattle.event_lines.specs.declared.Line.{Line}
 use Rattle.guarantee.specs.Answers.{pack, unsound, kindOf}
-use Rattle.guarantee.specs.Machine.{Asked, nextOrder, replied, answer, after, machineAnswers, final}
-use Rattle.guarantee.specs.Calls.{callBits, callBytes}
+use Rattle.guarantee.specs.Machine.{Asked, nextOrder, replied, answer, after, final}
 use Rattle.guarantee.specs.Counted.{accepts}
 use Rattle.guarantee.specs.AnyOrder.{Rearranged, every, noOrder, different, isReply}
 use Rattle.guarantee.proofs.Moved.{kind-pack}
@@ -36,7 +35,7 @@ use Rattle.whole_campaign.proofs.Parts.{singles-final, singles-answers, sound-a
 use Rattle.whole_campaign.proofs.Whole.{passing, gives-is, leaves-is, answers-is, left-is}
 use Rattle.whole_campaign.proofs.Given.{passes, old-sound, bytes}
 use Rattle.any_order.specs.Lines.{rowsOf, replyOn, repliesOn, isGiven, wellFormed, allFit, allDiffer}
-use Rattle.any_order.specs.AnyOrder.{EitherWay, InAnyOrder, BlockInAnyOrder, AnyOrder, ordersOn, stateOn, Delayed, SamePlan}
+use Rattle.any_order.specs.AnyOrder.{AnyOrder, ordersOn, stateOn, Delayed, SamePlan}
 use Rattle.any_order.proofs.Blocks.{lines-rows, only-replies, block-whole, whole-told}
 
 -- a rearranged block is read as the lines rearranged
@@ -149,15 +148,15 @@ module _ (s : List ℕ) (e : sheetPasses s ≡ true) (r : Run) (k : Sound (netwo
     other-answer : blockCall s other (bytesOf r) ≡ pack 6 0 (length (linesOf other))
     other-answer = block-answer other other-formed other-fits other-differs
 
-  -- what the answer tells of a block
-  sound-told : (block : List ℕ) → allDiffer block ≡ true → accepts (blockCall s block (bytesOf r)) ≡ true → (wellFormed block ≡ true) × (allFit s (bytesOf r) block ≡ true)
+  -- what an accepted block tells
+  sound-told : (block : List ℕ) → accepts (blockCall s block (bytesOf r)) ≡ true → (wellFormed block ≡ true) × (allFit s (bytesOf r) block ≡ true) × (allDiffer block ≡ true)
   unfolding wellFormed allFit allDiffer repliesOn gives givesBy
-  sound-told block d a =
+  sound-told block a =
       let t : Block = blockOf g r (linesOf block) in
       let few = kept-few g (ok .shape .bookings) r (k .core .size) (linesOf block) in
       let z = no-fault t few (fault-few g r (linesOf block)) (ap accepts (sym (gives-is s e r k (call block))) ∙ a) in
-      let (w, f) = whole-told g (ok .shape .bookings) r (linesOf block) d z in
-      (w, fit-is (linesOf block) ∙ f)
+      let (w, f, d) = whole-told g ok r k (linesOf block) z in
+      (w, fit-is (linesOf block) ∙ f, d)
 
   -- ---- all of it
 
@@ -230,7 +229,7 @@ module _ (s bs : List ℕ) (o : inOrder s bs ≡ false) where
           whole = λ z. clash (inOrder s bs) z o;
           singly = block-unchanged other ∙ sym (unchanged-list (repliesOn block));
         };
-        told = λ block d a. clash (accepts (refusedWith s)) (ap accepts (sym (block-refused block)) ∙ a) not-accepted;
+        told = λ block a. clash (accepts (refusedWith s)) (ap accepts (sym (block-refused block)) ∙ a) not-accepted;
       }
 
 -- for all bytes

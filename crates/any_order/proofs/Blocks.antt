@@ -1,17 +1,20 @@
 -- A block whose lines are well formed, all fit and name different bookings, on the plain machine: it is taken whole.
 -- Assumes nothing.
 use mathlib.Core.Path.{_≡_, refl, sym, ap, _∙_}
-use mathlib.Core.Logic.{inl, inr}
-use mathlib.Core.Bool.{Bool, true, false}
+use mathlib.Core.Logic.{_≢_, inl, inr}
+use mathlib.Core.Bool.{true, false}
 use mathlib.Core.List.{List, [], _∷_, map}
 use Prim.Native.Nat.{ℕ, zero, suc, _≤_}
 use native.Mathlib.Nat.{le-refl}
 use native.Mathlib.Omega.{arith}
 use lib.Dec.{eqb}
 use lib.ListN.{length, take, drop, drop-of-length-le}
-use Rattle.bounded.proofs.Bools.{_&_, and-l, and-r, which, clash}
+use borrow.Author.Tests.{ne-eqb}
+use Rattle.bounded.proofs.Bools.{_&_, and-l, and-r, not-i, which, clash}
 use Rattle.network.specs.declared.Network.{Network}
+use Rattle.verdict.proofs.Facts.{Passes}
 use Rattle.run.specs.declared.Run.{Run}
+use Rattle.run.proofs.Facts.{Sound}
 use Rattle.event_lines.specs.Line.{lineOf, linesFrom}
 use Rattle.event_lines.specs.declared.Line.{Line}
 use Rattle.event_lines.specs.declared.Line.the-variants.{Given, Misformed}
@@ -20,9 +23,9 @@ use Rattle.guarantee.specs.Machine.{Asked, replied, replyTo, answer, after, fin
 use Rattle.guarantee.specs.Counted.{accepts}
 use Rattle.guarantee.specs.AnyOrder.{every, isReply, noOrder, notTo, different}
 use Rattle.guarantee.proofs.Numbers.{small-9, taken-small}
-use Rattle.guarantee.proofs.Moved.{kind-pack}
-use Rattle.guarantee.proofs.AnyOrder.{others-alike}
-use Rattle.block_calls.specs.Block.{keptOf, faultOf, Block, blockOf}
+use Rattle.guarantee.proofs.Moved.{kind-pack, moved}
+use Rattle.guarantee.proofs.AnyOrder.{fits-same, others-alike, once}
+use Rattle.block_calls.specs.Block.{keptOf, faultOf, blockOf}
 use Rattle.any_order.specs.Lines.{rowsFrom, replyOn, isGiven}
 
 -- the lines are read from the bytes of each
@@ -80,14 +83,30 @@ module _ (g : Network) (few : g .n ≤ 64) where
   unfolding blockOf faultOf
   block-whole r lines w f d = rw (kept-whole r lines w f d, map-length lines, drop-of-length-le lines {i = length lines} (le-refl (length lines)))
 
-  -- where nothing is wrong with a block, its lines are well formed and all fit
-  pub whole-told : (r : Run) (lines : List Line) → different (map replyOn lines) ≡ true → blockOf g r lines .fault ≡ 0 → (every isGiven lines ≡ true) × AllFit r lines
-  unfolding every isGiven different replyOn blockOf keptOf faultOf after
-  whole-told r [] d z = (refl, refl)
-  whole-told r (Given l b ∷ lines) d z = elim (which (replyTo g r l b .taken)) [
-    | inl t ↦ (let n = and-l (every (notTo b) (map replyOn lines)) _ d in
-        let p = whole-told (replyTo g r l b .run) lines (and-r (every (notTo b) (map replyOn lines)) _ d) (rw t at z) in
-        (p .0, fits-i r l b t & (sym (others-fit r l b lines n) ∙ p .1)))
+-- ---- a block with which nothing is wrong
+
+module _ (g : Network) (ok : Passes g) where
+  -- no line of it is to a booking that has no reply that fits
+  none-to : (r : Run) (b : ℕ) → ((m : ℕ) → replyTo g r m b .taken ≡ false) → (lines : List Line) → blockOf g r lines .fault ≡ 0 → every (notTo b) (map replyOn lines) ≡ true
+  unfolding every notTo replyOn blockOf keptOf faultOf after
+  none-to r b c [] z = refl
+  none-to r b c (Given l x ∷ lines) z = elim (which (replyTo g r l x .taken)) [
+    | inl t ↦ (let d : x ≢ b = λ e. clash (replyTo g r l b .taken) (rw e at t) (c l) in
+        not-i _ (ne-eqb x b d) & none-to (replyTo g r l x .run) b (λ m. fits-same g r m b l x (λ e. d (sym e)) ∙ c m) lines (rw t at z))
     | inr n ↦ absurd (let y : _≡_ {A = ℕ} 9 0 = rw n at z in omega arith)
   ]
-  whole-told r (Misformed ∷ lines) d z = absurd (omega arith)
+  none-to r b c (Misformed ∷ lines) z = absurd (omega arith)
+
+  -- its lines are well formed, all fit and name different bookings
+  pub whole-told : (r : Run) → Sound g r → (lines : List Line) → blockOf g r lines .fault ≡ 0
+      → (every isGiven lines ≡ true) × (every accepts (map (answer g r) (map replyOn lines)) ≡ true) × (different (map replyOn lines) ≡ true)
+  unfolding every isGiven different replyOn blockOf keptOf faultOf after
+  whole-told r s [] z = (refl, refl, refl)
+  whole-told r s (Given l b ∷ lines) z = elim (which (replyTo g r l b .taken)) [
+    | inl t ↦ (let y = rw t at z in
+        let n = none-to (replyTo g r l b .run) b (once g ok r s l b t) lines y in
+        let p = whole-told (replyTo g r l b .run) (moved g ok r s (replied l b) .sound) lines y in
+        (p .0, fits-i g (ok .shape .bookings) r l b t & (sym (others-fit g (ok .shape .bookings) r l b lines n) ∙ p .1), n & p .2))
+    | inr n ↦ absurd (let y : _≡_ {A = ℕ} 9 0 = rw n at z in omega arith)
+  ]
+  whole-told r s (Misformed ∷ lines) z = absurd (omega arith)

@@ -51,8 +51,8 @@ pub record AnyOrder (s bs : List ℕ) : Type 0 where
   pub several : (qs ps : List Asked) → noOrder qs ≡ true → different qs ≡ true → Rearranged qs ps → InAnyOrder s bs qs ps
   -- the lines of the block are well formed, all fit and name different bookings
   pub blocks : (block other : List ℕ) → wellFormed block ≡ true → allFit s bs block ≡ true → allDiffer block ≡ true → Rearranged (rowsOf block) (rowsOf other) → BlockInAnyOrder s bs block other
-  -- where they name different bookings, an accepted block tells the rest
-  pub told : (block : List ℕ) → allDiffer block ≡ true → accepts (blockCall s block bs) ≡ true → (wellFormed block ≡ true) × (allFit s bs block ≡ true)
+  -- so are those of every block that is accepted
+  pub told : (block : List ℕ) → accepts (blockCall s block bs) ≡ true → (wellFormed block ≡ true) × (allFit s bs block ≡ true) × (allDiffer block ≡ true)
 
 -- ---- a campaign: replies, an order, replies, an order, and so on
 

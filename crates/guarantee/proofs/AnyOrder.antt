@@ -6,14 +6,13 @@ use mathlib.Core.Logic.{_≢_}
 use mathlib.Core.Bool.{Bool, true, false, not, _&&_, _||_, cond}
 use mathlib.Core.List.{List, [], _∷_, _++_, map}
 use Prim.Native.Nat.{ℕ, zero, suc, _<_}
+use native.Mathlib.Omega.{arith}
 use lib.Dec.{eqb, ltb}
-use lib.ListN.{getD, set}
-use lib.Seq.{getD-set-other, set-comm}
-use borrow.Author.Tests.{eqb-false, not-true}
-use Rattle.bounded.proofs.Bools.{and-l, and-r, clash}
+use lib.Seq.{getD-set-same, getD-set-other, set-comm}
+use borrow.Author.Tests.{eqb-false, ne-eqb, not-true}
+use Rattle.bounded.proofs.Bools.{and-l, and-r, and-no-r, clash}
 use Rattle.sets.specs.Sets.{member}
 use Rattle.sets.proofs.Members.{member-zero}
-use Rattle.network.specs.Network.{exposed}
 use Rattle.network.specs.declared.Network.{Network}
 use Rattle.verdict.proofs.Facts.{Passes}
 use Rattle.standing.specs.Standing.{free, requested, held, lost, returning, codeIs, coded}
@@ -23,11 +22,11 @@ use Rattle.run.specs.declared.Run.{Run}
 use Rattle.run.specs.declared.Replied.{Replied}
 use Rattle.run.proofs.Facts.{Core, Sound, coded-i}
 use Rattle.run.proofs.Cases.{ReplyCase, misfit, confirmed, refused, again, returned, kept, reply-case}
-use Rattle.run.proofs.Exits.{still-decides, settled, settle-codes, reply-y, reply-n, reply-g, reply-k}
+use Rattle.run.proofs.Exits.{still-decides, settled, reply-y, reply-n, reply-g, reply-k}
 use Rattle.guarantee.specs.Answers.{replyBits}
 use Rattle.guarantee.specs.Machine.{Asked, nextOrder, replied, replyTo, answer, after, machineAnswers, final}
 use Rattle.guarantee.specs.AnyOrder.{Rearranged, every, isReply, noOrder, notTo, different}
-use Rattle.guarantee.proofs.Moved.{moved}
+use Rattle.guarantee.proofs.Moved.{settle-code, moved}
 use Rattle.guarantee.proofs.Rearranged.{every-front, every-rearranged}
 
 -- ---- a reply and the other bookings
@@ -59,8 +58,7 @@ module _ (g : Network) where
   put-other r x v y d = getD-set-other (r .code) x y v 0 d
 
   settle-other : (r : Run) (x v y : ℕ) → y ≢ x → code (settle g (put r x v)) y ≡ code r y
-  unfolding code
-  settle-other r x v y d = rw (settle-codes g (put r x v)) (getD-set-other (r .code) x y v 0 d)
+  settle-other r x v y d = settle-code g (put r x v) y ∙ put-other r x v y d
 
   -- and a reply changes no other booking's code
   other-code : (r : Run) (l x : ℕ) {t : Replied} → ReplyCase g r l x t → (y : ℕ) → y ≢ x → code (t .run) y ≡ code r y
@@ -93,14 +91,17 @@ module _ (g : Network) where
   untaken r l x (returned h m e) n = clash true refl n
   untaken r l x (kept h m e) n = clash true refl n
 
+  run-is : (t : Replied) (u : Run) → fits u ≡ t → t .run ≡ u
+  run-is t u e = sym (ap (λ (v : Replied). v .run) e)
+
   effect-by : (r : Run) (l x : ℕ) {t : Replied} → ReplyCase g r l x t → t .taken ≡ fitting l x (code r x) → Effect l x r
   unfolding afterNo
   effect-by r l x misfit n = none (λ t e. untaken t l x (reply-case g t l x) (fits-by-code t l x ∙ ap (fitting l x) e ∙ sym n))
-  effect-by r l x (confirmed h m e) n = decides held h m (λ t c. sym (ap (λ (u : Replied). u .run) (reply-y g t l x h c e (settle g (put t x held)) refl)))
-  effect-by r l x (refused h m e z) n = decides lost h m (λ t c. sym (ap (λ (u : Replied). u .run) (reply-n g t l x h c e lost (settle g (put t x lost)) (rw z refl) refl)))
-  effect-by r l x (again h m e z) n = decides free h m (λ t c. sym (ap (λ (u : Replied). u .run) (reply-n g t l x h c e free (settle g (put t x free)) (rw z refl) refl)))
-  effect-by r l x (returned h m e) n = ends free m (λ t c. sym (ap (λ (u : Replied). u .run) (reply-g g t l x h c e (put t x free) refl)))
-  effect-by r l x (kept h m e) n = ends held m (λ t c. sym (ap (λ (u : Replied). u .run) (reply-k g t l x h c e (put t x held) refl)))
+  effect-by r l x (confirmed h m e) n = decides held h m (λ t c. run-is _ _ (reply-y g t l x h c e (settle g (put t x held)) refl))
+  effect-by r l x (refused h m e z) n = decides lost h m (λ t c. run-is _ _ (reply-n g t l x h c e lost (settle g (put t x lost)) (rw z refl) refl))
+  effect-by r l x (again h m e z) n = decides free h m (λ t c. run-is _ _ (reply-n g t l x h c e free (settle g (put t x free)) (rw z refl) refl))
+  effect-by r l x (returned h m e) n = ends free m (λ t c. run-is _ _ (reply-g g t l x h c e (put t x free) refl))
+  effect-by r l x (kept h m e) n = ends held m (λ t c. run-is _ _ (reply-k g t l x h c e (put t x held) refl))
 
   effect : (r : Run) (l x : ℕ) → Effect l x r
   effect r l x = effect-by r l x (reply-case g r l x) (fits-by-code r l x)
@@ -150,7 +151,7 @@ module _ (g : Network) where
   less : (x y : ℕ) → suc x ≢ suc y → x ≢ y
   less x y d e = d (ap suc e)
 
-  fits-same : (r : Run) (l b m c : ℕ) → b ≢ c → replyTo g (after g r (replied m c)) l b .taken ≡ replyTo g r l b .taken
+  pub fits-same : (r : Run) (l b m c : ℕ) → b ≢ c → replyTo g (after g r (replied m c)) l b .taken ≡ replyTo g r l b .taken
   unfolding replyTo after
   fits-same r l zero m c d = refl
   fits-same r l (suc x) m zero d = refl
@@ -193,6 +194,38 @@ module _ (g : Network) where
       (each-alone (after g r (replied l b)) qs o (and-r (every (notTo b) qs) _ d) ∙ others-alike r l b qs o (and-l (every (notTo b) qs) _ d))
 
 module _ (g : Network) (ok : Passes g) where
+  -- ---- one booking
+
+  -- a booking that is not requested and not returning has no reply that fits
+  closed : (r : Run) (x : ℕ) → code r x ≢ requested → code r x ≢ returning → (m : ℕ) → reply g r m x .taken ≡ false
+  unfolding fitting
+  closed r x d e m = fits-by-code g r m x ∙ rw (ne-eqb (code r x) requested d, ne-eqb (code r x) returning e) (and-no-r (ltb x (g .n)) _ refl)
+
+  module _ (r : Run) (s : Sound g r) (l x : ℕ) where
+    now : (v : ℕ) → x < g .n → code (put r x v) x ≡ v
+    unfolding code
+    now v h = getD-set-same (r .code) x v 0 (omega (arith, s .core .size, ok .shape .bookings))
+
+    settled-now : (v : ℕ) → x < g .n → code (settle g (put r x v)) x ≡ v
+    settled-now v h = settle-code g (put r x v) x ∙ now v h
+
+    -- a reply that fits closes its booking
+    closes : {t : Replied} → ReplyCase g r l x t → t .taken ≡ true → (code (t .run) x ≢ requested) × (code (t .run) x ≢ returning)
+    closes misfit n = clash false n refl
+    closes (confirmed h m e) n = let c = settled-now held h in (λ z. omega arith, λ z. omega arith)
+    closes (refused h m e z) n = let c = settled-now lost h in (λ z. omega arith, λ z. omega arith)
+    closes (again h m e z) n = let c = settled-now free h in (λ z. omega arith, λ z. omega arith)
+    closes (returned h m e) n = let c = now free h in (λ z. omega arith, λ z. omega arith)
+    closes (kept h m e) n = let c = now held h in (λ z. omega arith, λ z. omega arith)
+
+  -- after it no second one fits
+  pub once : (r : Run) → Sound g r → (l b : ℕ) → replyTo g r l b .taken ≡ true → (m : ℕ) → replyTo g (after g r (replied l b)) m b .taken ≡ false
+  unfolding replyTo after
+  once r s l zero t m = refl
+  once r s l (suc x) t m = let c = closes r s l x (reply-case g r l x) t in closed (reply g r l x .run) x (c .0) (c .1) m
+
+  -- ---- lists, from a sound state
+
   -- a reply may come first
   to-front : (r : Run) → Sound g r → (l b : ℕ) (front rest : List Asked) → noOrder front ≡ true → every (notTo b) front ≡ true
       → final g r (front ++ (replied l b ∷ rest)) ≡ final g (after g r (replied l b)) (front ++ rest)

@@ -73,7 +73,7 @@ swing : (h : ℕ → ℕ) (r s : Run) (y : ℕ) (k m : ℕ → ℕ) → ((b : �
 swing h r s y k m miss here there b = elim (same? b y) [ inl p ↦ rw p here | inr d ↦ rw (miss b d, there b d) ]
 
 -- the switch changes no code
-settle-code : (g : Network) (r : Run) (b : ℕ) → code (settle g r) b ≡ code r b
+pub settle-code : (g : Network) (r : Run) (b : ℕ) → code (settle g r) b ≡ code r b
 unfolding settle code
 settle-code g r b = by-cond (λ (s : Run). code s b ≡ code r b) {t = toSwitch (standing g r) (here g r)} {a = turn r (firstLive g (standing g r))} {b = r} (λ e. refl) (λ e. refl)
 

@@ -1,1 +1,1 @@
-// The guarantee of a whole campaign, over every list of calls from the start: definitions and theorems only, no code.
+// The guarantee of a whole campaign, over every list of calls from the start, and replies in any order: definitions and theorems only, no code.

@@ -316,10 +316,12 @@ impl Comparison<'_> {
         let mut dice = Dice::new(seed);
         self.examples_of_orders()?;
         self.refused_pairs(&mut dice)?;
-        self.part = "any order, 64 open requests".to_string();
-        let wide = case_of(&flights::returnables(64, 0));
-        for _ in 0..200 {
-            self.orders_from(&wide, &[1; 65], &mut dice)?;
+        for n in [8, 12, 20, 33, 64] {
+            self.part = format!("any order, {n} open requests");
+            let wide = case_of(&flights::returnables(n, 0));
+            for _ in 0..100 {
+                self.orders_from(&wide, &state_of(&vec![1; n + 1]), &mut dice)?;
+            }
         }
         self.part = "any order, on the flights".to_string();
         let cases: Vec<Case> = passing().into_iter().chain(flights::wide().iter().map(case_of)).collect();
