@@ -34,9 +34,9 @@ use Rattle.whole_campaign.specs.Lists.{answersOn, leftOn}
 use Rattle.whole_campaign.proofs.Parts.{singles-final, singles-answers, sound-after}
 use Rattle.whole_campaign.proofs.Whole.{passing, gives-is, leaves-is, answers-is, left-is}
 use Rattle.whole_campaign.proofs.Given.{passes, old-sound, bytes}
-use Rattle.any_order.specs.Lines.{rowsOf, replyOn, repliesOn, isGiven, wellFormed, allFit, allDiffer}
+use Rattle.any_order.specs.Lines.{rowsOf, joined, replyOn, repliesOn, isGiven, wellFormed, allFit, allDiffer}
 use Rattle.any_order.specs.AnyOrder.{AnyOrder, ordersOn, stateOn, Delayed, SamePlan}
-use Rattle.any_order.proofs.Blocks.{lines-rows, only-replies, block-whole, whole-told}
+use Rattle.any_order.proofs.Blocks.{lines-rows, rows-stay, only-replies, block-whole, whole-told}
 
 -- a rearranged block is read as the lines rearranged
 rows-lines : (block other : List ℕ) → Rearranged (rowsOf block) (rowsOf other) → Rearranged (linesOf block) (linesOf other)
@@ -115,9 +115,13 @@ module _ (s : List ℕ) (e : sheetPasses s ≡ true) (r : Run) (k : Sound (netwo
     unfolding leaves leavesBy
     block-left = leaves-is s e r k (call block) ∙ ap (λ (t : Block). bytesOf (t .run)) block-is
 
-  module _ (block other : List ℕ) (w : wellFormed block ≡ true) (f : allFit s (bytesOf r) block ≡ true) (d : allDiffer block ≡ true) (p : Rearranged (rowsOf block) (rowsOf other)) where
+  -- and the same lines in another order
+  module _ (block : List ℕ) (rows : List (List ℕ)) (w : wellFormed block ≡ true) (f : allFit s (bytesOf r) block ≡ true) (d : allDiffer block ≡ true) (p : Rearranged (rowsOf block) rows) where
+    abbrev other : List ℕ
+    other = joined rows
+
     lines-p : Rearranged (linesOf block) (linesOf other)
-    lines-p = rows-lines block other p
+    lines-p = rows-lines block other (rw (rows-stay block rows w p) p)
 
     replies-p : Rearranged (repliesOn block) (repliesOn other)
     unfolding repliesOn
@@ -173,11 +177,11 @@ module _ (s : List ℕ) (e : sheetPasses s ≡ true) (r : Run) (k : Sound (netwo
           alike = asked-list ps (no-order-late qs ps o p) (different-rearranged qs ps p o d);
           state = left-list ps ∙ ap bytesOf (same-final g ok r k qs ps o d p) ∙ sym (left-list qs);
         };
-        blocks = λ block other w f d p. record {
-          answer = other-answer block other w f d p ∙ ap (pack 6 0) (length-rearranged (linesOf block) (linesOf other) (rows-lines block other p)) ∙ sym (block-answer block w f d);
-          state = other-left block other w f d p ∙ sym (block-left block w f d);
-          whole = λ o. other-answer block other w f d p;
-          singly = other-left block other w f d p ∙ sym (left-list (repliesOn block));
+        blocks = λ block rows w f d p. record {
+          answer = other-answer block rows w f d p ∙ ap (pack 6 0) (length-rearranged (linesOf block) (linesOf (joined rows)) (lines-p block rows w f d p)) ∙ sym (block-answer block w f d);
+          state = other-left block rows w f d p ∙ sym (block-left block w f d);
+          whole = λ o. other-answer block rows w f d p;
+          singly = other-left block rows w f d p ∙ sym (left-list (repliesOn block));
         };
         told = sound-told;
       }
@@ -223,11 +227,11 @@ module _ (s bs : List ℕ) (o : inOrder s bs ≡ false) where
               ∙ sym (ap (λ (t : List ℕ). askedLeaves s t (replied l b)) (unchanged (replied m c)) ∙ unchanged (replied l b));
         };
         several = λ qs ps n d p. record { alone = refused-list qs; alike = refused-list ps; state = unchanged-list ps ∙ sym (unchanged-list qs) };
-        blocks = λ block other w f d p. record {
-          answer = block-refused other ∙ sym (block-refused block);
-          state = block-unchanged other ∙ sym (block-unchanged block);
+        blocks = λ block rows w f d p. record {
+          answer = block-refused (joined rows) ∙ sym (block-refused block);
+          state = block-unchanged (joined rows) ∙ sym (block-unchanged block);
           whole = λ z. clash (inOrder s bs) z o;
-          singly = block-unchanged other ∙ sym (unchanged-list (repliesOn block));
+          singly = block-unchanged (joined rows) ∙ sym (unchanged-list (repliesOn block));
         };
         told = λ block a. clash (accepts (refusedWith s)) (ap accepts (sym (block-refused block)) ∙ a) not-accepted;
       }

@@ -4,12 +4,13 @@ use mathlib.Core.Path.{_≡_, refl, sym, ap, _∙_}
 use mathlib.Core.Logic.{_≢_, inl, inr}
 use mathlib.Core.Bool.{true, false}
 use mathlib.Core.List.{List, [], _∷_, map}
-use Prim.Native.Nat.{ℕ, zero, suc, _≤_}
+use Prim.Native.Nat.{ℕ, zero, suc, _+_, _*_, _/_, _≤_}
 use native.Mathlib.Nat.{le-refl}
 use native.Mathlib.Omega.{arith}
 use lib.Dec.{eqb}
-use lib.ListN.{length, take, drop, drop-of-length-le}
-use borrow.Author.Tests.{ne-eqb}
+use lib.ListN.{length, take, drop, drop-of-length-le, length-append}
+use lib.Seq.{take-at, drop-at}
+use borrow.Author.Tests.{eqb-true, ne-eqb}
 use Rattle.bounded.proofs.Bools.{_&_, and-l, and-r, not-i, which, clash}
 use Rattle.network.specs.declared.Network.{Network}
 use Rattle.verdict.proofs.Facts.{Passes}
@@ -18,21 +19,63 @@ use Rattle.run.proofs.Facts.{Sound}
 use Rattle.event_lines.specs.Line.{lineOf, linesFrom}
 use Rattle.event_lines.specs.declared.Line.{Line}
 use Rattle.event_lines.specs.declared.Line.the-variants.{Given, Misformed}
+use Rattle.event_lines.proofs.LineLaws.{read-text, line-length}
 use Rattle.guarantee.specs.Answers.{kindOf, place9, replyBits}
 use Rattle.guarantee.specs.Machine.{Asked, replied, replyTo, answer, after, final}
 use Rattle.guarantee.specs.Counted.{accepts}
-use Rattle.guarantee.specs.AnyOrder.{every, isReply, noOrder, notTo, different}
+use Rattle.guarantee.specs.AnyOrder.{Rearranged, every, isReply, noOrder, notTo, different}
 use Rattle.guarantee.proofs.Numbers.{small-9, taken-small}
 use Rattle.guarantee.proofs.Moved.{kind-pack, moved}
+use Rattle.guarantee.proofs.Rearranged.{every-rearranged}
 use Rattle.guarantee.proofs.AnyOrder.{fits-same, others-alike, once}
-use Rattle.block_calls.specs.Block.{keptOf, faultOf, blockOf}
-use Rattle.any_order.specs.Lines.{rowsFrom, replyOn, isGiven}
+use Rattle.block_calls.specs.Block.{linesOf, keptOf, faultOf, blockOf}
+use Rattle.any_order.specs.Lines.{rowsFrom, rowsOf, joined, hasSix, replyOn, isGiven, wellFormed}
 
 -- the lines are read from the bytes of each
 pub lines-rows : (n : ℕ) (t : List ℕ) → linesFrom n t ≡ map lineOf (rowsFrom n t)
 unfolding linesFrom rowsFrom
 lines-rows zero t = refl
 lines-rows (suc n) t = ap (λ (ls : List Line). lineOf (take 6 t) ∷ ls) (lines-rows n (drop 6 t))
+
+-- lines of six bytes, put one after the other, are the lines of that block
+joined-length : (rows : List (List ℕ)) → every hasSix rows ≡ true → length (joined rows) ≡ 6 * length rows
+unfolding every hasSix joined
+joined-length [] h = refl
+joined-length (row ∷ rows) h =
+    let six = eqb-true (length row) 6 (and-l (hasSix row) _ h) in
+    length-append row (joined rows) ∙ omega (arith, joined-length rows (and-r (hasSix row) _ h))
+
+rows-from : (rows : List (List ℕ)) → every hasSix rows ≡ true → rowsFrom (length rows) (joined rows) ≡ rows
+unfolding every hasSix joined rowsFrom
+rows-from [] h = refl
+rows-from (row ∷ rows) h =
+    let six = eqb-true (length row) 6 (and-l (hasSix row) _ h) in
+    rw (take-at row (joined rows) 6 six, drop-at row (joined rows) 6 six) (ap (λ (rs : List (List ℕ)). row ∷ rs) (rows-from rows (and-r (hasSix row) _ h)))
+
+rows-joined : (rows : List (List ℕ)) → every hasSix rows ≡ true → rowsOf (joined rows) ≡ rows
+unfolding rowsOf
+rows-joined rows h =
+    let n : (length (joined rows) + 5) / 6 ≡ length rows = omega (arith, joined-length rows h) in
+    rw n (rows-from rows h)
+
+-- the lines of a block have six bytes if they are well formed
+six-bytes : (row : List ℕ) (line : Line) → lineOf row ≡ line → isGiven line ≡ true → hasSix row ≡ true
+unfolding hasSix isGiven
+six-bytes row (Given l b) e g = rw (read-text row l b e, line-length l b) refl
+six-bytes row Misformed e g = clash false g refl
+
+rows-six : (rows : List (List ℕ)) → every isGiven (map lineOf rows) ≡ true → every hasSix rows ≡ true
+unfolding every
+rows-six [] g = refl
+rows-six (row ∷ rows) g = six-bytes row (lineOf row) refl (and-l (isGiven (lineOf row)) _ g) & rows-six rows (and-r (isGiven (lineOf row)) _ g)
+
+-- so a block's lines in any order, put one after the other, are those of that block
+pub rows-stay : (block : List ℕ) (rows : List (List ℕ)) → wellFormed block ≡ true → Rearranged (rowsOf block) rows → rowsOf (joined rows) ≡ rows
+unfolding wellFormed linesOf rowsOf
+rows-stay block rows w p =
+    let n : ℕ = (length block + 5) / 6 in
+    let w′ : every isGiven (map lineOf (rowsFrom n block)) ≡ true = rw (← lines-rows n block) w in
+    rows-joined rows (every-rearranged hasSix (rowsFrom n block) rows p (rows-six (rowsFrom n block) w′))
 
 -- no order stands on a block's lines
 pub only-replies : (lines : List Line) → noOrder (map replyOn lines) ≡ true

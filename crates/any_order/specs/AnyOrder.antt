@@ -16,7 +16,7 @@ use Rattle.calls.specs.Calls.{askedCall, askedLeaves, inOrder}
 use Rattle.block_calls.specs.Block.{linesOf, blockCall, blockLeaves}
 use Rattle.whole_campaign.specs.Calls.{singles}
 use Rattle.whole_campaign.specs.Lists.{answersOn, leftOn}
-use Rattle.any_order.specs.Lines.{rowsOf, repliesOn, wellFormed, allFit, allDiffer}
+use Rattle.any_order.specs.Lines.{rowsOf, joined, repliesOn, wellFormed, allFit, allDiffer}
 
 -- TWO REPLIES p and q.
 pub record EitherWay (s bs : List ℕ) (p q : Asked) : Type 0 where
@@ -49,8 +49,8 @@ pub record AnyOrder (s bs : List ℕ) : Type 0 where
   pub two : (l b m c : ℕ) → b ≢ c → EitherWay s bs (replied l b) (replied m c)
   -- no order is taken between them, and they name different bookings
   pub several : (qs ps : List Asked) → noOrder qs ≡ true → different qs ≡ true → Rearranged qs ps → InAnyOrder s bs qs ps
-  -- the lines of the block are well formed, all fit and name different bookings
-  pub blocks : (block other : List ℕ) → wellFormed block ≡ true → allFit s bs block ≡ true → allDiffer block ≡ true → Rearranged (rowsOf block) (rowsOf other) → BlockInAnyOrder s bs block other
+  -- the lines of the block are well formed, all fit and name different bookings; the rows are the same lines, and joined they are the other block
+  pub blocks : (block : List ℕ) (rows : List (List ℕ)) → wellFormed block ≡ true → allFit s bs block ≡ true → allDiffer block ≡ true → Rearranged (rowsOf block) rows → BlockInAnyOrder s bs block (joined rows)
   -- so are those of every block that is accepted
   pub told : (block : List ℕ) → accepts (blockCall s block bs) ≡ true → (wellFormed block ≡ true) × (allFit s bs block ≡ true) × (allDiffer block ≡ true)
 

@@ -1,8 +1,9 @@
 -- The lines of a block: as bytes, as replies, and what is asked of them so that their order does not matter.
 -- Assumes nothing.
 use mathlib.Core.Bool.{Bool, true, false}
-use mathlib.Core.List.{List, [], _∷_, map}
+use mathlib.Core.List.{List, [], _∷_, _++_, map}
 use Prim.Native.Nat.{ℕ, zero, suc, _+_, _/_}
+use lib.Dec.{eqb}
 use lib.ListN.{length, take, drop}
 use Rattle.event_lines.specs.declared.Line.{Line}
 use Rattle.event_lines.specs.declared.Line.the-variants.{Given, Misformed}
@@ -19,6 +20,14 @@ rowsFrom (suc more) rest = take 6 rest ∷ rowsFrom more (drop 6 rest)
 
 unfoldable pub rowsOf : List ℕ → List (List ℕ)
 rowsOf block = rowsFrom ((length block + 5) / 6) block
+
+-- lines put one after the other; those of a block have six bytes each if they are well formed
+unfoldable pub joined : List (List ℕ) → List ℕ
+joined [] = []
+joined (row ∷ rows) = row ++ joined rows
+
+unfoldable pub hasSix : List ℕ → Bool
+hasSix row = eqb (length row) 6
 
 -- the reply on each line; a misformed one has none, and it does not matter which is named
 unfoldable pub replyOn : Line → Asked
