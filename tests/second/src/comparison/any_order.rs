@@ -126,11 +126,13 @@ fn two_replies(dice: &mut Dice, plan: &Plan, state: &[u8]) -> [Call; 2] {
     [replies[0], replies[1]]
 }
 
-/// The lines of a block, shuffled.
-fn shuffled(dice: &mut Dice, block: &[u8]) -> Vec<u8> {
-    let mut lines: Vec<&[u8]> = block.chunks(LINE_LENGTH).collect();
-    dice.shuffle(&mut lines);
-    lines.concat()
+/// The entries in another order; there are two or more, all different.
+fn in_another_order<T: Clone + PartialEq>(dice: &mut Dice, entries: &[T]) -> Vec<T> {
+    let mut other = entries.to_vec();
+    while other == entries {
+        dice.shuffle(&mut other);
+    }
+    other
 }
 
 /// The plan of the example: a chase aircraft, a slot, and a tanker after the
@@ -227,7 +229,7 @@ impl Comparison<'_> {
 
     /// Both letters to one open booking: the first counts, so the order decides.
     fn to_one_booking(&mut self, case: &Case, from: &[u8], booking: usize) -> Outcome {
-        let &[l, m] = letters(from[booking]) else { return Ok(()) };
+        let &[l, m] = letters(from[booking]) else { panic!("booking {booking} has no open order") };
         let [p, q] = [l, m].map(|letter| Call::Reply(letter, booking as u32));
         let one = self.given(case, from, &[p, q])?;
         let other = self.given(case, from, &[q, p])?;
@@ -235,7 +237,7 @@ impl Comparison<'_> {
             return Err(self.report(case, from, "of two replies to one booking the first counts\n"));
         }
         self.tally.event(SAME_BOOKING);
-        Ok(())
+        self.demand_as_second(case, from, &one)
     }
 
     /// With an order between them the order of two replies may decide.
@@ -245,25 +247,22 @@ impl Comparison<'_> {
         if !one.is_like(&other) {
             self.tally.event(ORDER_BETWEEN);
         }
-        Ok(())
+        self.demand_as_second(case, from, &one)
     }
 }
 
 /// Blocks, and lists of replies.
 impl Comparison<'_> {
-    /// A block whose replies all fit, with its lines in another order, and its
-    /// replies given singly in a third.
+    /// A block of two or more replies that all fit, with its lines in another order.
     fn shuffled_block(&mut self, case: &Case, from: &[u8], block: &[u8], dice: &mut Dice) -> Outcome {
         let lines = block.len() / LINE_LENGTH;
         let (whole, after) = self.block_from(case, from, &Lent::with_rest(block, BEHIND))?;
         if whole.answer != pack(ACCEPTED, 0, lines as u32) {
             return Err(self.report(case, from, "each of its replies fits\n"));
         }
-        let other = shuffled(dice, block);
+        let other = in_another_order(dice, &block.chunks(LINE_LENGTH).collect::<Vec<_>>()).concat();
         self.expect_block(case, from, &Lent::with_rest(&other, BEHIND), (whole.answer, &after))?;
-        if lines > 1 {
-            self.tally.event(BLOCKS);
-        }
+        self.tally.event(BLOCKS);
         if lines >= 8 {
             self.tally.event(LONG);
         }
@@ -283,18 +282,14 @@ impl Comparison<'_> {
         };
         let mut replies: Vec<Call> = plan.bookings().map(reply).collect();
         dice.shuffle(&mut replies);
-        let one = replies.clone();
-        dice.shuffle(&mut replies);
-        let given = self.order_is_free(case, from, [&one, &replies])?;
+        let other = in_another_order(dice, &replies);
+        let given = self.order_is_free(case, from, [&replies, &other])?;
         self.tally.event(SINGLY);
         self.demand_as_second(case, from, &given)
     }
 
     /// With a line that does not fit the order of a block decides what is kept.
     fn with_a_bad_line(&mut self, case: &Case, from: &[u8], block: &[u8]) -> Outcome {
-        if block.is_empty() {
-            return Ok(());
-        }
         let bad = lines("Y0");
         let (first, _) = self.block_from(case, from, &Lent::with_rest(&[&bad, block].concat(), BEHIND))?;
         let (last, after) = self.block_from(case, from, &Lent::with_rest(&[block, &bad].concat(), BEHIND))?;
@@ -406,6 +401,7 @@ impl Comparison<'_> {
         self.either_way(case, &beside, two_replies(dice, plan, &beside))
     }
 
+    /// All of it from a sound state with two or more open orders.
     fn orders_from(&mut self, case: &Case, from: &[u8], dice: &mut Dice) -> Outcome {
         let plan = &case.network().expect("a sheet that passes").plan;
         for _ in 0..3 {
