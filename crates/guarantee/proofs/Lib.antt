@@ -13,4 +13,3 @@ pub mod Whole
 pub mod Plans
 pub mod Rearranged
 pub mod AnyOrder
-pub mod Flights

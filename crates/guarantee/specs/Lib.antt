@@ -6,4 +6,3 @@ pub mod Counted
 pub mod Demand
 pub mod Guarantee
 pub mod AnyOrder
-pub mod Flights

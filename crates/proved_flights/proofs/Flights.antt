@@ -14,9 +14,9 @@ use Rattle.standing.specs.Ways.{supports, precedesSome, ready, lostIn, heldFirm
 use Rattle.run.specs.State.{code, start}
 use Rattle.run.specs.Orders.{passed, mayReturn, toReturn, mayRequest, toRequest, ending, next}
 use Rattle.run.specs.Replies.{toSwitch, settle, afterNo, reply}
 use Rattle.guarantee.specs.Answers.{pack, orderBits, place9, replyBits, checkBits}
 use Rattle.guarantee.specs.Machine.{replyTo, answer, after, machineAnswers}
-use Rattle.guarantee.specs.Flights.{Flight, outcome, link, setOf, plannedAt, planOf, passes, refuses, request, return, accepted, flownBy, waits, calledOff, checked, withLinks, flown, limited, chased, flights}
+use Rattle.proved_flights.specs.Flights.{Flight, outcome, link, setOf, plannedAt, planOf, passes, refuses, request, return, accepted, flownBy, waits, calledOff, checked, withLinks, flown, limited, chased, flights}
 
 pub flights-hold : map outcome flights ≡ map (λ (f : Flight). f .expected) flights
 unfolding any all seek first count table member gather inserted insert kept subsetOf apart disjointFrom joinedOf throughAt throughOf closureTo closureOf oneOf ofKind joins linked directAt directOf atDesk deskAt desksOf networkOf wayOf inWay before pre firm exposed some circular gap unclosed usedBy unused sameWay repeated stays staying leadsTo settledBy safe refuge laterRefuge stranding strands check verdictNumber verdictPlace only without sizeOf openAt isFull fullFor deskFull codeIs coded matters supports precedesSome ready lostIn heldFirm live liveAt firstLive code start passed mayReturn toReturn mayRequest toRequest ending next toSwitch settle afterNo reply pack orderBits place9 replyBits checkBits replyTo answer after machineAnswers outcome link setOf plannedAt planOf passes refuses request return accepted flownBy waits calledOff checked withLinks flown limited chased flights

@@ -1,0 +1,2 @@
+-- The theorem of crate `proved_flights`.
+pub mod Flights

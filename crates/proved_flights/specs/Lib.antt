@@ -1,0 +1,2 @@
+-- The definitions of crate `proved_flights`.
+pub mod Flights
