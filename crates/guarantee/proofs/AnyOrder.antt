@@ -5,7 +5,7 @@ use mathlib.Core.Path.{_≡_, refl, sym, ap, ap₂, _∙_}
 use mathlib.Core.Logic.{_≢_}
 use mathlib.Core.Bool.{Bool, true, false, not, _&&_, _||_, cond}
 use mathlib.Core.List.{List, [], _∷_, _++_, map}
-use Prim.Native.Nat.{ℕ, zero, suc, _<_}
+use Prim.Native.Nat.{ℕ, zero, suc, _≤_, _<_}
 use native.Mathlib.Omega.{arith}
 use lib.Dec.{eqb, ltb}
 use lib.Seq.{getD-set-same, getD-set-other, set-comm}
@@ -29,7 +29,7 @@ use Rattle.guarantee.specs.AnyOrder.{Rearranged, every, isReply, noOrder
 use Rattle.guarantee.proofs.Moved.{settle-code, moved}
 use Rattle.guarantee.proofs.Rearranged.{every-front, every-rearranged}
 
--- ---- a reply and the other bookings
+-- ---- when a reply fits
 
 -- whether one of four tests holds, as a reply makes them
 fit-test : (a b c d e : Bool) (r1 r2 r3 r4 r0 : Run)
@@ -53,35 +53,17 @@ module _ (g : Network) where
       fit-test (ltb x (g .n)) (is r requested x && eqb l Y) (is r requested x && eqb l N) (is r returning x && eqb l G) (is r returning x && eqb l K)
       (settle g (put r x held)) (settle g (put r x (afterNo g x))) (put r x free) (put r x held) r
 
-  put-other : (r : Run) (x v y : ℕ) → y ≢ x → code (put r x v) y ≡ code r y
-  unfolding code
-  put-other r x v y d = getD-set-other (r .code) x y v 0 d
+  -- ---- what a reply does
 
-  settle-other : (r : Run) (x v y : ℕ) → y ≢ x → code (settle g (put r x v)) y ≡ code r y
-  settle-other r x v y d = settle-code g (put r x v) y ∙ put-other r x v y d
+  -- the code v that an answered booking x gets: it has no open order any more
+  abbrev Answered : ℕ → ℕ → Type 0
+  Answered x v = (x < g .n) × (v ≤ lost) × (v ≢ requested)
 
-  -- and a reply changes no other booking's code
-  other-code : (r : Run) (l x : ℕ) {t : Replied} → ReplyCase g r l x t → (y : ℕ) → y ≢ x → code (t .run) y ≡ code r y
-  other-code r l x misfit y d = refl
-  other-code r l x (confirmed h m e) y d = settle-other r x held y d
-  other-code r l x (refused h m e z) y d = settle-other r x lost y d
-  other-code r l x (again h m e z) y d = settle-other r x free y d
-  other-code r l x (returned h m e) y d = put-other r x free y d
-  other-code r l x (kept h m e) y d = put-other r x held y d
-
-  same-code : (r : Run) (l x y : ℕ) → y ≢ x → code (reply g r l x .run) y ≡ code r y
-  same-code r l x y d = other-code r l x (reply-case g r l x) y d
-
-  fits-alike : (r : Run) (l x m y : ℕ) → y ≢ x → reply g (reply g r l x .run) m y .taken ≡ reply g r m y .taken
-  fits-alike r l x m y d = fits-by-code (reply g r l x .run) m y ∙ ap (fitting m y) (same-code r l x y d) ∙ sym (fits-by-code r m y)
-
-  -- ---- two replies
-
-  -- what a reply does from every state in which its booking has the code that it has in r
+  -- in every state in which its booking has the code that it has in r
   data Effect (l x : ℕ) (r : Run) : Type 0 where
-    none : ((t : Run) → code t x ≡ code r x → reply g t l x .run ≡ t) → Effect l x r
-    decides : (v : ℕ) → x < g .n → code r x ≡ requested → ((t : Run) → code t x ≡ requested → reply g t l x .run ≡ settle g (put t x v)) → Effect l x r
-    ends : (v : ℕ) → code r x ≡ returning → ((t : Run) → code t x ≡ returning → reply g t l x .run ≡ put t x v) → Effect l x r
+    none : reply g r l x .taken ≡ false → ((t : Run) → code t x ≡ code r x → reply g t l x .run ≡ t) → Effect l x r
+    decides : (v : ℕ) → Answered x v → code r x ≡ requested → ((t : Run) → code t x ≡ requested → reply g t l x .run ≡ settle g (put t x v)) → Effect l x r
+    ends : (v : ℕ) → Answered x v → code r x ≡ returning → ((t : Run) → code t x ≡ returning → reply g t l x .run ≡ put t x v) → Effect l x r
 
   untaken : (r : Run) (l x : ℕ) {t : Replied} → ReplyCase g r l x t → t .taken ≡ false → t .run ≡ r
   untaken r l x misfit n = refl
@@ -96,15 +78,35 @@ module _ (g : Network) where
 
   effect-by : (r : Run) (l x : ℕ) {t : Replied} → ReplyCase g r l x t → t .taken ≡ fitting l x (code r x) → Effect l x r
   unfolding afterNo
-  effect-by r l x misfit n = none (λ t e. untaken t l x (reply-case g t l x) (fits-by-code t l x ∙ ap (fitting l x) e ∙ sym n))
-  effect-by r l x (confirmed h m e) n = decides held h m (λ t c. run-is _ _ (reply-y g t l x h c e (settle g (put t x held)) refl))
-  effect-by r l x (refused h m e z) n = decides lost h m (λ t c. run-is _ _ (reply-n g t l x h c e lost (settle g (put t x lost)) (rw z refl) refl))
-  effect-by r l x (again h m e z) n = decides free h m (λ t c. run-is _ _ (reply-n g t l x h c e free (settle g (put t x free)) (rw z refl) refl))
-  effect-by r l x (returned h m e) n = ends free m (λ t c. run-is _ _ (reply-g g t l x h c e (put t x free) refl))
-  effect-by r l x (kept h m e) n = ends held m (λ t c. run-is _ _ (reply-k g t l x h c e (put t x held) refl))
+  effect-by r l x misfit n = none (fits-by-code r l x ∙ sym n) (λ t e. untaken t l x (reply-case g t l x) (fits-by-code t l x ∙ ap (fitting l x) e ∙ sym n))
+  effect-by r l x (confirmed h m e) n = decides held (h, omega arith, omega arith) m (λ t c. run-is _ _ (reply-y g t l x h c e (settle g (put t x held)) refl))
+  effect-by r l x (refused h m e z) n = decides lost (h, omega arith, omega arith) m (λ t c. run-is _ _ (reply-n g t l x h c e lost (settle g (put t x lost)) (rw z refl) refl))
+  effect-by r l x (again h m e z) n = decides free (h, omega arith, omega arith) m (λ t c. run-is _ _ (reply-n g t l x h c e free (settle g (put t x free)) (rw z refl) refl))
+  effect-by r l x (returned h m e) n = ends free (h, omega arith, omega arith) m (λ t c. run-is _ _ (reply-g g t l x h c e (put t x free) refl))
+  effect-by r l x (kept h m e) n = ends held (h, omega arith, omega arith) m (λ t c. run-is _ _ (reply-k g t l x h c e (put t x held) refl))
 
   effect : (r : Run) (l x : ℕ) → Effect l x r
   effect r l x = effect-by r l x (reply-case g r l x) (fits-by-code r l x)
+
+  -- ---- the other bookings
+
+  put-other : (r : Run) (x v y : ℕ) → y ≢ x → code (put r x v) y ≡ code r y
+  unfolding code
+  put-other r x v y d = getD-set-other (r .code) x y v 0 d
+
+  other-code : (r : Run) (l x y : ℕ) → y ≢ x → Effect l x r → code (reply g r l x .run) y ≡ code r y
+  other-code r l x y d (none n f) = rw (f r refl) refl
+  other-code r l x y d (decides v a m f) = rw (f r m) (settle-code g (put r x v) y ∙ put-other r x v y d)
+  other-code r l x y d (ends v a m f) = rw (f r m) (put-other r x v y d)
+
+  -- a reply changes no other booking's code
+  same-code : (r : Run) (l x y : ℕ) → y ≢ x → code (reply g r l x .run) y ≡ code r y
+  same-code r l x y d = other-code r l x y d (effect r l x)
+
+  fits-alike : (r : Run) (l x m y : ℕ) → y ≢ x → reply g (reply g r l x .run) m y .taken ≡ reply g r m y .taken
+  fits-alike r l x m y d = fits-by-code (reply g r l x .run) m y ∙ ap (fitting m y) (same-code r l x y d) ∙ sym (fits-by-code r m y)
+
+  -- ---- two replies
 
   -- while a request is open the way stays
   way-stays : (r : Run) (y : ℕ) → y < g .n → code r y ≡ requested → settle g r ≡ r
@@ -133,14 +135,14 @@ module _ (g : Network) where
     flipped e = d (sym e)
 
     two-effects : Effect l x r → Effect m y r → reply g (reply g r l x .run) m y .run ≡ reply g (reply g r m y .run) l x .run
-    two-effects (none f) q = idle-first r l x m y d f
-    two-effects (decides v h ex f) (none p) = sym (idle-first r m y l x flipped p)
-    two-effects (decides v h ex f) (decides w k ey p) =
-        decided-then r l x v m y w flipped k ex ey f p ∙ ap (settle g) (put-swap r x v y w d) ∙ sym (decided-then r m y w l x v d h ey ex p f)
-    two-effects (decides v h ex f) (ends w ey p) = absurd (c .quiet-returning y x ey ex)
-    two-effects (ends v ex f) (none p) = sym (idle-first r m y l x flipped p)
-    two-effects (ends v ex f) (decides w k ey p) = absurd (c .quiet-returning x y ex ey)
-    two-effects (ends v ex f) (ends w ey p) =
+    two-effects (none n f) q = idle-first r l x m y d f
+    two-effects (decides v a ex f) (none n p) = sym (idle-first r m y l x flipped p)
+    two-effects (decides v a ex f) (decides w b ey p) =
+        decided-then r l x v m y w flipped (b .0) ex ey f p ∙ ap (settle g) (put-swap r x v y w d) ∙ sym (decided-then r m y w l x v d (a .0) ey ex p f)
+    two-effects (decides v a ex f) (ends w b ey p) = absurd (c .quiet-returning y x ey ex)
+    two-effects (ends v a ex f) (none n p) = sym (idle-first r m y l x flipped p)
+    two-effects (ends v a ex f) (decides w b ey p) = absurd (c .quiet-returning x y ex ey)
+    two-effects (ends v a ex f) (ends w b ey p) =
         let e : code (put r x v) y ≡ returning = put-other r x v y flipped ∙ ey in
         let o : code (put r y w) x ≡ returning = put-other r y w x d ∙ ex in
         ap (λ (t : Run). reply g t m y .run) (f r ex) ∙ p (put r x v) e ∙ put-swap r x v y w d
@@ -201,28 +203,22 @@ module _ (g : Network) (ok : Passes g) where
   unfolding fitting
   closed r x d e m = fits-by-code g r m x ∙ rw (ne-eqb (code r x) requested d, ne-eqb (code r x) returning e) (and-no-r (ltb x (g .n)) _ refl)
 
-  module _ (r : Run) (s : Sound g r) (l x : ℕ) where
-    now : (v : ℕ) → x < g .n → code (put r x v) x ≡ v
-    unfolding code
-    now v h = getD-set-same (r .code) x v 0 (omega (arith, s .core .size, ok .shape .bookings))
-
-    settled-now : (v : ℕ) → x < g .n → code (settle g (put r x v)) x ≡ v
-    settled-now v h = settle-code g (put r x v) x ∙ now v h
-
-    -- a reply that fits closes its booking
-    closes : {t : Replied} → ReplyCase g r l x t → t .taken ≡ true → (code (t .run) x ≢ requested) × (code (t .run) x ≢ returning)
-    closes misfit n = clash false n refl
-    closes (confirmed h m e) n = let c = settled-now held h in (λ z. omega arith, λ z. omega arith)
-    closes (refused h m e z) n = let c = settled-now lost h in (λ z. omega arith, λ z. omega arith)
-    closes (again h m e z) n = let c = settled-now free h in (λ z. omega arith, λ z. omega arith)
-    closes (returned h m e) n = let c = now free h in (λ z. omega arith, λ z. omega arith)
-    closes (kept h m e) n = let c = now held h in (λ z. omega arith, λ z. omega arith)
+  -- a reply that fits closes its booking
+  closes : (r : Run) → Sound g r → (l x : ℕ) → reply g r l x .taken ≡ true → Effect g l x r → (code (reply g r l x .run) x ≢ requested) × (code (reply g r l x .run) x ≢ returning)
+  unfolding code
+  closes r s l x t (none n f) = clash (reply g r l x .taken) t n
+  closes r s l x t (decides v a m f) =
+      let c = settle-code g (put r x v) x ∙ getD-set-same (r .code) x v 0 (omega (arith, s .core .size, ok .shape .bookings, a .0)) in
+      rw (f r m) (λ z. a .2 (sym c ∙ z), λ z. omega (arith, a .1, c))
+  closes r s l x t (ends v a m f) =
+      let c = getD-set-same (r .code) x v 0 (omega (arith, s .core .size, ok .shape .bookings, a .0)) in
+      rw (f r m) (λ z. a .2 (sym c ∙ z), λ z. omega (arith, a .1, c))
 
   -- after it no second one fits
   pub once : (r : Run) → Sound g r → (l b : ℕ) → replyTo g r l b .taken ≡ true → (m : ℕ) → replyTo g (after g r (replied l b)) m b .taken ≡ false
   unfolding replyTo after
   once r s l zero t m = refl
-  once r s l (suc x) t m = let c = closes r s l x (reply-case g r l x) t in closed (reply g r l x .run) x (c .0) (c .1) m
+  once r s l (suc x) t m = let c = closes r s l x t (effect g r l x) in closed (reply g r l x .run) x (c .0) (c .1) m
 
   -- ---- lists, from a sound state
 
