@@ -306,7 +306,8 @@ uint32_t campaign_next_order(const uint8_t *sheet, size_t sheet_len,
  *
  * Replies to different bookings may come in any order, as long as no next order
  * is asked for between them: each gets the same answer, and together they leave
- * the same state. Of two replies to one booking the first counts.
+ * the same state. Of several replies to one booking the first that fits is
+ * taken, and no other.
  */
 uint32_t campaign_reply(const uint8_t *sheet, size_t sheet_len,
                         uint8_t *state, size_t state_len,
