@@ -32,8 +32,9 @@ use Rattle.block_calls.proofs.Few.{kept-few, fault-few}
 use Rattle.whole_campaign.specs.Calls.{single, block as call, singles, gives, leaves, givesBy, leavesBy}
 use Rattle.whole_campaign.specs.Lists.{answersOn, leftOn}
 use Rattle.whole_campaign.proofs.Parts.{singles-final, singles-answers, sound-after}
-use Rattle.whole_campaign.proofs.Whole.{passing, gives-is, leaves-is, answers-is, left-is}
-use Rattle.whole_campaign.proofs.Given.{passes, old-sound, bytes}
+use Rattle.calls.proofs.InOrder.{passing, sheet-passes, state-holds}
+use Rattle.whole_campaign.proofs.Whole.{gives-is, leaves-is, answers-is, left-is}
+use Rattle.whole_campaign.proofs.Given.{bytes}
 use Rattle.any_order.specs.Lines.{rowsOf, joined, replyOn, repliesOn, isGiven, wellFormed, allFit, allDiffer}
 use Rattle.any_order.specs.AnyOrder.{AnyOrder, ordersOn, stateOn, Delayed, SamePlan}
 use Rattle.any_order.proofs.Blocks.{lines-rows, rows-stay, only-replies, block-whole, whole-told}
@@ -239,7 +240,7 @@ module _ (s bs : List ℕ) (o : inOrder s bs ≡ false) where
 -- for all bytes
 pub any-order : (s bs : List ℕ) → AnyOrder s bs
 any-order s bs = elim (which (inOrder s bs)) [
-  | inl o ↦ subst (AnyOrder s) (bytes s bs o) (from-sound s (passes s bs o) (runOf bs) (old-sound s bs o))
+  | inl o ↦ subst (AnyOrder s) (bytes s bs o) (from-sound s (sheet-passes s bs o) (runOf bs) (state-holds s bs o))
   | inr o ↦ from-refused s bs o
 ]
 

@@ -2,3 +2,4 @@
 pub mod Places
 pub mod Exits
 pub mod FirstAnswer
+pub mod InOrder

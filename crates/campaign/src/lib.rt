@@ -6,6 +6,7 @@ ghost use lib.ListN.{length};
 ghost use Rattle.block_calls.specs.Block.{blockCall, blockLeaves};
 ghost use Rattle.journal_calls.specs.Journal.{journalLineCall, journalLineLeaves};
 ghost use Rattle.journal_calls.specs.Restart.{restartCall, restartLeaves};
+ghost use Rattle.passed_calls.specs.Passed.{passedCall, passedLeaves};
 ghost use Rattle.settle_calls.specs.Settle.{settleCall, settleLeaves};
 
 // ---- sheets
@@ -54,6 +55,15 @@ pub extern "C" fn campaign_reply_block(sheet: &[u8], block: &[u8], state: &mut [
     ensures left { λ _. ⌜ now (state .exit) ≡ blockLeaves (now (sheet .entry)) (now (block .entry)) (now (state .entry)) ⌝ }
 {
     block_calls::reply_block(sheet, block, state)
+}
+
+// Writes the listing of the ways before the current one at the front of the lent bytes: why each is out.
+#[no_mangle]
+pub extern "C" fn campaign_passed_ways(sheet: &[u8], state: &[u8], listing: &mut [u8]) -> u32
+    ensures answer { λ r. ⌜ r ≡ passedCall (now (sheet .entry)) (now (state .entry)) (length (now (listing .entry))) ⌝ }
+    ensures left { λ _. ⌜ now (listing .exit) ≡ passedLeaves (now (sheet .entry)) (now (state .entry)) (now (listing .entry)) ⌝ }
+{
+    passed_calls::passed_ways(sheet, state, listing)
 }
 
 // ---- the journal

@@ -26,7 +26,8 @@ use Rattle.settle_calls.specs.Settle.{wrongEntry, settles}
 use Rattle.settle_calls.proofs.Accepted.{settled-e}
 use Rattle.whole_campaign.specs.Calls.{Call, singles}
 use Rattle.whole_campaign.specs.Singly.{singlyOn, toldOn}
-use Rattle.whole_campaign.proofs.Whole.{passing, singles-bits, started, from-start}
+use Rattle.calls.proofs.InOrder.{passing}
+use Rattle.whole_campaign.proofs.Whole.{singles-bits, started, from-start}
 use Rattle.stopped_campaign.specs.Stopped.{journalOn, wholeLines}
 use Rattle.stopped_campaign.proofs.Replays.{machineJournal}
 use Rattle.stopped_campaign.proofs.Stopped.{Accepted, accepted-e, journal-is, journal-singles, faithful-start, exact-start}

@@ -78,7 +78,7 @@ fn quiet(s: Standing, way: u64) -> bool
 }
 
 // How many ways stand before way w: all for 0.
-fn ways_before(g: Network, w: usize) -> usize
+pub fn ways_before(g: Network, w: usize) -> usize
     ensures { λ k. ⌜ k ≡ waysBefore g w ⌝ }
 {
     if w == 0 {

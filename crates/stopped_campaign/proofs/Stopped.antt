@@ -32,7 +32,8 @@ use Rattle.whole_campaign.specs.Lists.{answersOn, leftOn}
 use Rattle.whole_campaign.specs.Singly.{keptBy, callsIn, keptAs, answersIn, singly, singlyTold, singlyOn, toldOn}
 use Rattle.whole_campaign.proofs.Lists.{answers-append, states-append, left-append, singles-calls}
 use Rattle.whole_campaign.proofs.Parts.{parts, told-kept, calls-told}
-use Rattle.whole_campaign.proofs.Whole.{passing, gives-is, left-final, singles-left, singles-bits, answer-is, started, from-start}
+use Rattle.calls.proofs.InOrder.{passing}
+use Rattle.whole_campaign.proofs.Whole.{gives-is, left-final, singles-left, singles-bits, answer-is, started, from-start}
 use Rattle.stopped_campaign.specs.Stopped.{journalOn, wholeLines, Writable, OfABlock, Faithful, isOpen, AcrossTheStop, Exact}
 use Rattle.stopped_campaign.proofs.OneLine.{next-has, reply-has}
 use Rattle.stopped_campaign.proofs.Blocks.{kept-lines}

@@ -12,10 +12,9 @@ use lib.Seq.{drop-drop}
 use borrow.Author.Tests.{eqb-true}
 use Rattle.bounded.proofs.Bools.{which, and-l, and-r}
 use Rattle.network.specs.declared.Network.{Network}
-use Rattle.run.specs.Bytes.{bytesOf, runOf, soundBytes}
+use Rattle.run.specs.Bytes.{bytesOf, runOf}
 use Rattle.run.specs.declared.Run.{Run}
 use Rattle.run.proofs.Facts.{Sound}
-use Rattle.run.proofs.SoundTest.{sound-e}
 use Rattle.event_lines.specs.Line.{lineOf, linesFrom}
 use Rattle.event_lines.specs.declared.Line.{Line}
 use Rattle.event_lines.specs.declared.Line.the-variants.{Given, Misformed}
@@ -25,14 +24,15 @@ use Rattle.guarantee.specs.Counted.{accepts}
 use Rattle.guarantee.proofs.Moved.{kind-pack}
 use Rattle.guarantee.proofs.Numbers.{small-9}
 use Rattle.calls.specs.Calls.{networkIn, sheetPasses, inOrder, askedCall}
+use Rattle.calls.proofs.InOrder.{passing, sheet-passes, state-size, state-holds}
 use Rattle.block_calls.specs.Block.{linesOf, keptOf, blockOf}
-use Rattle.lent_state.proofs.Bytes.{bytes-run, codes-size}
+use Rattle.lent_state.proofs.Bytes.{bytes-run}
 use Rattle.whole_campaign.specs.Calls.{single, block, singles, gives, leaves, givesBy, leavesBy}
 use Rattle.whole_campaign.specs.Lists.{answersOn, leftOn}
 use Rattle.whole_campaign.specs.Singly.{keptBy, callsIn, answersIn}
 use Rattle.whole_campaign.specs.Given.{GivenSingly}
 use Rattle.whole_campaign.proofs.Parts.{parts, parts-final, singles-final, singles-answers, sound-after, told-kept, calls-told, answers-told}
-use Rattle.whole_campaign.proofs.Whole.{passing, gives-is, leaves-is, answers-is, left-is}
+use Rattle.whole_campaign.proofs.Whole.{gives-is, leaves-is, answers-is, left-is}
 
 -- the line after the kept ones: its reply does not fit
 module _ (g : Network) where
@@ -63,28 +63,18 @@ module _ (g : Network) where
   next-bad (suc n) r t l b h q = by-line n r t l b (λ s. next-bad n s (drop 6 t) l b) (lineOf (take 6 t)) refl h q
 
 module _ (s bs : List ℕ) (o : inOrder s bs ≡ true) where
-  pub passes : sheetPasses s ≡ true
-  unfolding inOrder
-  passes = and-l (sheetPasses s) _ o
-
-  state-sound : soundBytes (networkIn s) bs ≡ true
-  unfolding inOrder
-  state-sound = and-r (sheetPasses s) _ o
-
-  size : length bs ≡ 65
-  unfolding soundBytes
-  size = eqb-true (length bs) 65 (and-l (eqb (length bs) 65) _ state-sound)
+  abbrev passes : sheetPasses s ≡ true
+  passes = sheet-passes s bs o
 
   -- the state that the bytes hold
   abbrev old : Run
   old = runOf bs
 
-  pub old-sound : Sound (networkIn s) (runOf bs)
-  unfolding soundBytes
-  old-sound = sound-e (networkIn s) (passing s passes .shape) old (codes-size bs size) (and-r (eqb (length bs) 65) _ state-sound)
+  abbrev old-sound : Sound (networkIn s) (runOf bs)
+  old-sound = state-holds s bs o
 
   pub bytes : bytesOf (runOf bs) ≡ bs
-  bytes = bytes-run bs size
+  bytes = bytes-run bs (state-size s bs o)
 
   module _ (lines : List ℕ) where
     abbrev kept : List Asked

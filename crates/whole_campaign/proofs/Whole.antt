@@ -32,8 +32,9 @@ use Rattle.guarantee.specs.Guarantee.{Guarantee}
 use Rattle.guarantee.proofs.Bytes.{same-run, fine as sound-bytes, call-bits, call-bytes, calls-left}
 use Rattle.guarantee.proofs.Start.{start-sound}
 use Rattle.guarantee.proofs.Whole.{travel}
-use Rattle.guarantee.proofs.Plans.{plan-passes, plan-campaign}
-use Rattle.calls.specs.Calls.{networkIn, passes, sheetPasses, startLeaves, askedCall, askedLeaves, inOrder}
+use Rattle.guarantee.proofs.Plans.{plan-campaign}
+use Rattle.calls.specs.Calls.{networkIn, sheetPasses, startLeaves, askedCall, askedLeaves, inOrder}
+use Rattle.calls.proofs.InOrder.{fine, checked, passing}
 use Rattle.block_calls.specs.Block.{blockIn, blockCall, blockLeaves}
 use Rattle.whole_campaign.specs.Calls.{Call, single, block, singles, gives, leaves, givesBy, leavesBy}
 use Rattle.whole_campaign.specs.Lists.{answersOn, statesOn, leftOn, answersBy, statesBy}
@@ -42,35 +43,22 @@ use Rattle.whole_campaign.specs.Whole.{WholeCampaign}
 use Rattle.whole_campaign.proofs.Parts.{flat, finalBy, flat-final, singles-final, singles-answers, sound-after, told-calls, told-answers}
 
 module _ (s : List ℕ) (e : sheetPasses s ≡ true) where
-  fine : isFine (sheetOf s .judged) ≡ true
-  unfolding sheetPasses
-  fine = and-l (isFine (sheetOf s .judged)) _ e
-
   -- the ways of the sheet and the counts on its lines
   listed-sizes : waySizes (networkIn s) ≡ countsListed (sheetOf s .plan .a) (drop (waysPlace (sheetOf s .plan .n) (sheetOf s .plan .m)) s)
   unfolding waySizes waySize wayOf networkIn networkOf sizeAt
-  listed-sizes = sym (sheet-counts s fine)
+  listed-sizes = sym (sheet-counts s (fine s e))
 
   -- its limit is the head's last number
   listed-limit : networkIn s .limit ≡ limitIn s
   unfolding networkIn networkOf
-  listed-limit = sym (sheet-limit s fine)
+  listed-limit = sym (sheet-limit s (fine s e))
 
   valid-plan : Valid (sheetOf s .plan)
-  valid-plan = sheet-valid s fine
-
-  checked : verdictNumber (check (networkIn s)) ≡ 0
-  unfolding sheetPasses passes
-  checked = eqb-true (verdictNumber (check (networkIn s))) 0 (and-r (isFine (sheetOf s .judged)) _ e)
+  valid-plan = sheet-valid s (fine s e)
 
   guaranteed : (qs : List Asked) → Guarantee (networkIn s) qs
   unfolding networkIn
-  guaranteed qs = plan-campaign (sheetOf s .plan) valid-plan checked qs
-
-  -- what the check ensures of the sheet's network
-  pub passing : Passes (networkIn s)
-  unfolding networkIn
-  passing = plan-passes (sheetOf s .plan) valid-plan checked
+  guaranteed qs = plan-campaign (sheetOf s .plan) valid-plan (checked s e) qs
 
   -- ---- on a sound state the calls on bytes are the plain machine's
 
@@ -81,20 +69,20 @@ module _ (s : List ℕ) (e : sheetPasses s ≡ true) where
   module _ (r : Run) (k : Sound (networkIn s) r) where
     order : inOrder s (bytesOf r) ≡ true
     unfolding inOrder
-    order = e & sound-bytes (networkIn s) passing r k
+    order = e & sound-bytes (networkIn s) (passing s e) r k
 
     pub gives-is : (c : Call) → gives s (bytesOf r) c ≡ givesBy (networkIn s) r c
     unfolding gives givesBy blockCall blockIn
-    gives-is (single q) = asked-is (bytesOf r) q ∙ call-bits (networkIn s) passing r k q
+    gives-is (single q) = asked-is (bytesOf r) q ∙ call-bits (networkIn s) (passing s e) r k q
     gives-is (block lines) = rw (order, same-run r)
 
     pub leaves-is : (c : Call) → leaves s (bytesOf r) c ≡ bytesOf (leavesBy (networkIn s) r c)
     unfolding leaves leavesBy askedLeaves blockLeaves blockIn
-    leaves-is (single q) = rw e (call-bytes (networkIn s) passing r k q)
+    leaves-is (single q) = rw e (call-bytes (networkIn s) (passing s e) r k q)
     leaves-is (block lines) = rw (order, same-run r)
 
   then : (r : Run) → Sound (networkIn s) r → (c : Call) → Sound (networkIn s) (leavesBy (networkIn s) r c)
-  then r k c = sound-after (networkIn s) passing r k c
+  then r k c = sound-after (networkIn s) (passing s e) r k c
 
   pub answers-is : (r : Run) → Sound (networkIn s) r → (cs : List Call) → answersOn s (bytesOf r) cs ≡ answersBy (networkIn s) r cs
   unfolding answersOn answersBy
@@ -114,7 +102,7 @@ module _ (s : List ℕ) (e : sheetPasses s ≡ true) where
   -- ---- from the start
 
   begun : Sound (networkIn s) start
-  begun = start-sound (networkIn s) passing
+  begun = start-sound (networkIn s) (passing s e)
 
   -- the single calls that a list stands for
   plain : List Call → List Asked
@@ -125,11 +113,11 @@ module _ (s : List ℕ) (e : sheetPasses s ≡ true) where
 
   singly-is : (cs : List Call) → singlyOn s (bytesOf start) cs ≡ plain cs
   unfolding singlyOn plain
-  singly-is cs = rw (bits-is cs) (told-calls (networkIn s) passing start begun cs)
+  singly-is cs = rw (bits-is cs) (told-calls (networkIn s) (passing s e) start begun cs)
 
   told-is : (cs : List Call) → toldOn s (bytesOf start) cs ≡ machineAnswers (networkIn s) start (plain cs)
   unfolding toldOn plain
-  told-is cs = rw (bits-is cs) (told-answers (networkIn s) passing start begun cs)
+  told-is cs = rw (bits-is cs) (told-answers (networkIn s) (passing s e) start begun cs)
 
   -- the bytes after a list of calls are those of the plain machine's last state
   pub left-final : (cs : List Call) → leftOn s (bytesOf start) cs ≡ bytesOf (final (networkIn s) start (singlyOn s (bytesOf start) cs))
@@ -148,8 +136,8 @@ module _ (s : List ℕ) (e : sheetPasses s ≡ true) where
       → askedCall s (leftOn s (bytesOf start) cs) q ≡ answer (networkIn s) (final (networkIn s) start (singlyOn s (bytesOf start) cs)) q
   answer-is cs q =
       let t = final (networkIn s) start (singlyOn s (bytesOf start) cs) in
-      let k = travel (networkIn s) passing start begun (singlyOn s (bytesOf start) cs) in
-      rw (left-final cs) (asked-is (bytesOf t) q ∙ call-bits (networkIn s) passing t (k .sound) q)
+      let k = travel (networkIn s) (passing s e) start begun (singlyOn s (bytesOf start) cs) in
+      rw (left-final cs) (asked-is (bytesOf t) q ∙ call-bits (networkIn s) (passing s e) t (k .sound) q)
 
   pub started : (bs : List ℕ) → length bs ≡ 65 → startLeaves s bs ≡ bytesOf start
   unfolding startLeaves
@@ -163,7 +151,7 @@ module _ (s : List ℕ) (e : sheetPasses s ≡ true) where
       let g = guaranteed qs in
       let a : toldOn s (bytesOf start) cs ≡ answersTo (networkIn s) qs = told-is cs ∙ ap (machineAnswers (networkIn s) start) (sym (singly-is cs)) ∙ sym (g .bits) in
       let x : askedCall s (leftOn s (bytesOf start) cs) nextOrder ≡ orderAfter (networkIn s) qs =
-      asked-is (leftOn s (bytesOf start) cs) nextOrder ∙ ap (λ (bs : List ℕ). callBits (networkIn s) bs nextOrder) (left-final cs ∙ sym (calls-left (networkIn s) passing start begun qs)) in
+      asked-is (leftOn s (bytesOf start) cs) nextOrder ∙ ap (λ (bs : List ℕ). callBits (networkIn s) bs nextOrder) (left-final cs ∙ sym (calls-left (networkIn s) (passing s e) start begun qs)) in
       record {
         bits = bits-is cs;
         bytes = states-is start begun cs;
@@ -171,8 +159,8 @@ module _ (s : List ℕ) (e : sheetPasses s ≡ true) where
         same-state = singles-left qs ∙ sym (left-final cs);
         demand-3 = rw (a, x) (g .demand-3);
         sizes = listed-sizes;
-        kinds = λ b h. rw (sheet-letters s fine b h) (firm-is (sheetOf s .plan) valid-plan b h, repeats-is (sheetOf s .plan) valid-plan b h);
-        desks = λ d b l h. rw (sheet-desks s fine b h) (desk-is (sheetOf s .plan) d b l h);
+        kinds = λ b h. rw (sheet-letters s (fine s e) b h) (firm-is (sheetOf s .plan) valid-plan b h, repeats-is (sheetOf s .plan) valid-plan b h);
+        desks = λ d b l h. rw (sheet-desks s (fine s e) b h) (desk-is (sheetOf s .plan) d b l h);
         limit = listed-limit;
         semi-atomic = λ z. rw a (g .semi-atomic (ap ends (sym x) ∙ z));
       }

@@ -1,0 +1,2 @@
+-- The laws of crate `lent_text`.
+pub mod Room

@@ -1,0 +1,2 @@
+-- The definitions of crate `lent_text`.
+pub mod Room

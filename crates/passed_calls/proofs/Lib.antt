@@ -1,0 +1,3 @@
+-- The laws of crate `passed_calls`.
+pub mod Exits
+pub mod Shown

@@ -1,0 +1,3 @@
+-- The definitions of crate `passed_calls`.
+pub mod Passed
+pub mod Shown

@@ -1,0 +1,3 @@
+-- The definitions of crate `passed_ways`.
+pub mod Listing
+pub mod Story

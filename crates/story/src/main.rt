@@ -1,0 +1,4 @@
+// The story of the Tanker flight, flown by its second way.
+fn main() {
+    story_run::run();
+}

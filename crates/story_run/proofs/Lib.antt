@@ -1,0 +1,2 @@
+-- The laws of crate `story_run`.
+pub mod ToldLaws

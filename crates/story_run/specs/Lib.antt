@@ -1,0 +1,2 @@
+-- The definitions of crate `story_run`.
+pub mod Told
