@@ -1,9 +1,10 @@
-//! The eight calls on bytes, each answered with 32 bits:
+//! The nine calls on bytes, each answered with 32 bits:
 //! kind × 16,777,216 + refusal × 65,536 + place.
 
 use crate::block::{self, Bad, Taken};
 use crate::check::{self, Network};
 use crate::journal::{self, LETTERS, LINE_LENGTH};
+use crate::passed;
 use crate::plan::{self, Refusal};
 use crate::run::{self, Order, State};
 use crate::settle::{self, MOST_LINES};
@@ -42,7 +43,7 @@ pub fn place_of(answer: u32) -> u32 {
     answer % 65_536
 }
 
-fn refused(refusal: Refusal) -> u32 {
+pub fn refused(refusal: Refusal) -> u32 {
     pack(REFUSED, refusal.number, refusal.place)
 }
 
@@ -177,29 +178,42 @@ pub fn restart_judged(judged: &Judged, journal: &[u8], bytes: &mut [u8]) -> u32 
     write_back(step(), bytes)
 }
 
-/// The report, if a buffer of this length has room for it.
-fn report_of(judged: &Judged, fees: &[u8], journal: &[u8], length: usize) -> Result<String, Refusal> {
-    let network = judged.as_ref().map_err(|r| *r)?;
+/// The state after a journal that is not too long to be settled or told.
+pub fn replay_not_too_long(network: &Network, journal: &[u8]) -> Result<State, Refusal> {
     if journal.len() / LINE_LENGTH > MOST_LINES {
         return Err(too_many_lines());
     }
-    journal::replay(network, journal).map_err(wrong_line)?;
-    let fees = settle::read_fees(fees, network.plan.count())?;
-    let text = settle::report(&network.plan.ways, &fees, journal);
-    if text.len() > length {
-        return Err(short_buffer());
-    }
-    Ok(text)
+    journal::replay(network, journal).map_err(wrong_line)
 }
 
-pub fn settle_judged(judged: &Judged, fees: &[u8], journal: &[u8], report: &mut [u8]) -> u32 {
-    match report_of(judged, fees, journal, report.len()) {
+/// The answer, with the text at the front of the buffer if there is one and the buffer has room for it.
+fn write_text(text: Result<String, Refusal>, buffer: &mut [u8]) -> u32 {
+    match text {
+        Ok(text) if text.len() > buffer.len() => refused(short_buffer()),
         Ok(text) => {
-            report[..text.len()].copy_from_slice(text.as_bytes());
+            buffer[..text.len()].copy_from_slice(text.as_bytes());
             pack(ACCEPTED, 0, text.len() as u32)
         }
         Err(refusal) => refused(refusal),
     }
+}
+
+pub fn settle_judged(judged: &Judged, fees: &[u8], journal: &[u8], report: &mut [u8]) -> u32 {
+    let text = || {
+        let network = judged.as_ref().map_err(|r| *r)?;
+        replay_not_too_long(network, journal)?;
+        let fees = settle::read_fees(fees, network.plan.count())?;
+        Ok(settle::report(&network.plan.ways, &fees, journal))
+    };
+    write_text(text(), report)
+}
+
+pub fn passed_ways_judged(judged: &Judged, bytes: &[u8], listing: &mut [u8]) -> u32 {
+    let text = || {
+        let network = judged.as_ref().map_err(|r| *r)?;
+        Ok(passed::listing(network, &sound_state(network, bytes)?))
+    };
+    write_text(text(), listing)
 }
 
 // The calls as the dispatcher makes them.
@@ -230,6 +244,10 @@ pub fn restart(sheet: &[u8], journal: &[u8], state: &mut [u8]) -> u32 {
 
 pub fn settle(sheet: &[u8], fees: &[u8], journal: &[u8], report: &mut [u8]) -> u32 {
     settle_judged(&judge(sheet), fees, journal, report)
+}
+
+pub fn passed_ways(sheet: &[u8], state: &[u8], listing: &mut [u8]) -> u32 {
+    passed_ways_judged(&judge(sheet), state, listing)
 }
 
 pub fn journal_line(letter: u8, booking: u32, line: &mut [u8]) -> u32 {
