@@ -418,6 +418,11 @@ impl Campaign for Faulty {
         let (fees, journal) = (fees.unwrap_or(b""), journal.unwrap_or(b""));
         self.judged(sheet, |judged| calls::settle_judged(judged, fees, journal, report.unwrap_or(&mut [])))
     }
+
+    fn passed_ways(&self, sheet: &[u8], state: Option<&[u8]>, listing: Option<&mut [u8]>) -> u32 {
+        let (state, listing) = (state.unwrap_or(b""), listing.unwrap_or(&mut []));
+        self.judged(sheet, |judged| calls::passed_ways_judged(judged, state, listing))
+    }
 }
 
 fn compared(comparison: &mut Comparison) -> Outcome {

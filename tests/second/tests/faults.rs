@@ -492,6 +492,10 @@ impl Campaign for Faulty {
     ) -> u32 {
         calls::settle(sheet, fees.unwrap_or(b""), journal.unwrap_or(b""), report.unwrap_or(&mut []))
     }
+
+    fn passed_ways(&self, sheet: &[u8], state: Option<&[u8]>, listing: Option<&mut [u8]>) -> u32 {
+        calls::passed_ways(sheet, state.unwrap_or(b""), listing.unwrap_or(&mut []))
+    }
 }
 
 /// Compares until something differs: a fixed part first, then a few hundred

@@ -93,6 +93,10 @@ impl Campaign for Faulty {
     ) -> u32 {
         Second.settle(sheet, fees, journal, report)
     }
+
+    fn passed_ways(&self, sheet: &[u8], state: Option<&[u8]>, listing: Option<&mut [u8]>) -> u32 {
+        Second.passed_ways(sheet, state, listing)
+    }
 }
 
 /// All pairs of replies to different bookings, from all sound states of small plans.

@@ -58,6 +58,15 @@ mod library {
             report: *mut u8,
             report_len: usize,
         ) -> u32;
+        #[cfg(feature = "run")]
+        pub fn campaign_passed_ways(
+            sheet: *const u8,
+            sheet_len: usize,
+            state: *const u8,
+            state_len: usize,
+            listing: *mut u8,
+            listing_len: usize,
+        ) -> u32;
     }
 }
 
@@ -67,6 +76,12 @@ struct Real;
 #[cfg(feature = "run")]
 fn lent(bytes: Option<&[u8]>) -> (*const u8, usize) {
     bytes.map_or((std::ptr::null(), 0), |bytes| (bytes.as_ptr(), bytes.len()))
+}
+
+/// Bytes as a call is lent them that it may write.
+#[cfg(feature = "run")]
+fn lent_to_write(bytes: Option<&mut [u8]>) -> (*mut u8, usize) {
+    bytes.map_or((std::ptr::null_mut(), 0), |bytes| (bytes.as_mut_ptr(), bytes.len()))
 }
 
 // Safety of each call: the pointers and lengths are those of live slices, or null and 0.
@@ -115,8 +130,7 @@ impl Campaign for Real {
         report: Option<&mut [u8]>,
     ) -> u32 {
         let ((fees, fees_length), (lines, lines_length)) = (lent(fees), lent(journal));
-        let (start, length) =
-            report.map_or((std::ptr::null_mut(), 0), |report| (report.as_mut_ptr(), report.len()));
+        let (start, length) = lent_to_write(report);
         let (sheet, sheet_length) = (sheet.as_ptr(), sheet.len());
         unsafe {
             library::campaign_settle(
@@ -130,6 +144,12 @@ impl Campaign for Real {
                 length,
             )
         }
+    }
+
+    fn passed_ways(&self, sheet: &[u8], state: Option<&[u8]>, listing: Option<&mut [u8]>) -> u32 {
+        let ((state, state_length), (start, length)) = (lent(state), lent_to_write(listing));
+        let (sheet, sheet_length) = (sheet.as_ptr(), sheet.len());
+        unsafe { library::campaign_passed_ways(sheet, sheet_length, state, state_length, start, length) }
     }
 }
 
@@ -167,6 +187,10 @@ impl Campaign for Real {
     fn settle(&self, _: &[u8], _: Option<&[u8]>, _: Option<&[u8]>, _: Option<&mut [u8]>) -> u32 {
         unreachable!()
     }
+
+    fn passed_ways(&self, _: &[u8], _: Option<&[u8]>, _: Option<&mut [u8]>) -> u32 {
+        unreachable!()
+    }
 }
 
 struct Options {
@@ -188,6 +212,9 @@ const FEWEST_ORDERS: u64 = 100_000;
 
 /// So many reports of settlements are compared before the rounds.
 const FEWEST_SETTLED: u64 = 80_000;
+
+/// So many listings of the ways passed over are compared along campaigns before the rounds.
+const FEWEST_LISTINGS: u64 = 20_000;
 
 /// So many orders are passed over in campaigns with desks before the rounds.
 const FEWEST_PASSED_OVER: u64 = 60_000;
@@ -219,7 +246,7 @@ fn options() -> Option<Options> {
 }
 
 /// What was answered before desks, the fixed part, the desks, the journals, the blocks, any order,
-/// the settlements, then rounds until their number or the time is used up.
+/// the ways passed over, the settlements, then rounds until their number or the time is used up.
 fn compare(comparison: &mut Comparison, options: &Options) -> Outcome<u64> {
     let began = Instant::now();
     comparison.old_cases()?;
@@ -240,6 +267,9 @@ fn compare(comparison: &mut Comparison, options: &Options) -> Outcome<u64> {
         comparison.every_small_pair()?;
         comparison.enough_orders()?;
         println!("with replies in any order: {:.1} s", began.elapsed().as_secs_f64());
+        comparison.passed_ways(options.seed, FEWEST_LISTINGS)?;
+        comparison.enough_listings()?;
+        println!("with the ways passed over: {:.1} s", began.elapsed().as_secs_f64());
         comparison.settlements(options.seed, FEWEST_SETTLED)?;
         comparison.enough_settlements()?;
         println!("with the settlements: {:.1} s", began.elapsed().as_secs_f64());

@@ -5,10 +5,15 @@
 use super::blocks::BEHIND;
 use super::lent::Lent;
 use super::{Call, Case, Comparison, Outcome};
+use crate::dice::Dice;
 use crate::flights;
+use crate::generate::{self, Size, SMALL};
 use crate::journal;
 use crate::plan::{self, Kind, Plan};
 use crate::run::{self, State};
+
+/// Few bookings, so that there are not too many states.
+const FEW: Size = Size { fewest: 3, most: 4, ..SMALL };
 
 const KINDS: [Kind; 4] = [Kind::Returnable, Kind::Pivot, Kind::Repeatable, Kind::RepeatableReturnable];
 
@@ -57,14 +62,19 @@ fn three_beside() -> Vec<Plan> {
     kinds.iter().flat_map(|kinds| ways.clone().map(|ways| plan(kinds, ways))).collect()
 }
 
-/// All plans of n bookings with no more ways than there are different ones.
+/// All plans of n bookings with no more ways than there are different ones, at each split of desks.
 fn plans(n: usize) -> Vec<Plan> {
+    plans_at_one_desk(n).iter().flat_map(with_each_desk).collect()
+}
+
+/// The same at one desk that is never full.
+fn plans_at_one_desk(n: usize) -> Vec<Plan> {
     let pairs: Vec<(usize, usize)> = (1..=n).flat_map(|u| (1..=n).map(move |v| (u, v))).collect();
     let mut plans = Vec::new();
     for kinds in lists(&KINDS, n) {
         for links in choices(&pairs) {
             for ways in way_lists(n) {
-                plans.extend(with_each_desk(&Plan::at_one_desk(kinds.clone(), links.clone(), ways)));
+                plans.push(Plan::at_one_desk(kinds.clone(), links.clone(), ways));
             }
         }
     }
@@ -73,13 +83,31 @@ fn plans(n: usize) -> Vec<Plan> {
 
 /// Every way and every code, and one past each.
 fn states(plan: &Plan) -> Vec<State> {
+    states_of(plan, plan.ways.len() + 1, &[0, 1, 2, 3, 4, 5])
+}
+
+/// Every way and every code alone.
+fn good_states(plan: &Plan) -> Vec<State> {
+    states_of(plan, plan.ways.len(), &[0, 1, 2, 3, 4])
+}
+
+fn states_of(plan: &Plan, last_way: usize, codes: &[u8]) -> Vec<State> {
     let mut states = Vec::new();
-    for way in 0..=plan.ways.len() as u8 + 1 {
-        for codes in lists(&[0, 1, 2, 3, 4, 5], plan.count()) {
+    for way in 0..=last_way as u8 {
+        for codes in lists(codes, plan.count()) {
             states.push(flights::state_of(&[&[way], &codes[..]].concat()));
         }
     }
     states
+}
+
+/// Four bookings, most of which can't be given back, in two to four ways: many ways lack one that is held.
+fn mostly_firm(dice: &mut Dice) -> Plan {
+    let kinds: Vec<Kind> = (0..4).map(|_| Kind::of_letter(dice.pick(b"RRRPCD")).unwrap()).collect();
+    let links = if dice.percent(30) { vec![(1, dice.between(2, 4))] } else { Vec::new() };
+    let some = choices(&[1, 2, 3, 4]);
+    let ways = (0..dice.between(2, 4)).map(|_| some[dice.between(1, 15)].clone()).collect();
+    generate::give_desks(dice, Plan::at_one_desk(kinds, links, ways))
 }
 
 /// All blocks of up to n replies to n bookings.
@@ -157,6 +185,33 @@ impl Comparison<'_> {
             self.part = format!("every pair of replies on every plan of {} bookings", plan.count());
             for state in states(&plan).into_iter().filter(|state| run::is_sound(network, state)) {
                 self.every_pair(&case, &plan, &state)?;
+            }
+        }
+        Ok(())
+    }
+
+    /// The listing from every state of plans of one and of two bookings, and of three without links.
+    pub fn every_small_listing(&mut self) -> Outcome {
+        for plan in [plans_at_one_desk(1), plans_at_one_desk(2), three_beside()].concat() {
+            self.part = format!("the listings of every plan of {} bookings", plan.count());
+            let case = Case::new(plan::write(&plan).as_bytes());
+            if case.network().is_some() {
+                self.every_listing(&case, &states(&plan))?;
+            }
+        }
+        Ok(())
+    }
+
+    /// The same for so many random plans of three or four bookings that pass and have more than one way.
+    pub fn every_listing_of_a_few(&mut self, plans: usize, dice: &mut Dice) -> Outcome {
+        self.part = "every listing of random plans".to_string();
+        let mut met = 0;
+        while met < plans {
+            let plan = if met % 2 == 0 { generate::random_plan(dice, FEW) } else { mostly_firm(dice) };
+            let case = Case::new(plan::write(&plan).as_bytes());
+            if case.network().is_some() && plan.ways.len() > 1 {
+                self.every_listing(&case, &good_states(&plan))?;
+                met += 1;
             }
         }
         Ok(())

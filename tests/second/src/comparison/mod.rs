@@ -1,4 +1,4 @@
-//! The comparison of a first version of the eight calls with this one: the
+//! The comparison of a first version of the nine calls with this one: the
 //! same 32 bits, the same bytes of state, and no other byte changed.
 
 pub mod any_order;
@@ -13,6 +13,7 @@ mod ledger;
 mod lent;
 mod lines;
 mod old;
+pub mod passed;
 mod record;
 mod replies;
 pub mod settlements;
@@ -47,6 +48,8 @@ pub trait Campaign {
         journal: Option<&[u8]>,
         report: Option<&mut [u8]>,
     ) -> u32;
+    /// What is not there is lent as null and 0.
+    fn passed_ways(&self, sheet: &[u8], state: Option<&[u8]>, listing: Option<&mut [u8]>) -> u32;
 }
 
 /// The second version in the place of the first: it must not differ from itself.
@@ -89,6 +92,10 @@ impl Campaign for Second {
         report: Option<&mut [u8]>,
     ) -> u32 {
         calls::settle(sheet, fees.unwrap_or(b""), journal.unwrap_or(b""), report.unwrap_or(&mut []))
+    }
+
+    fn passed_ways(&self, sheet: &[u8], state: Option<&[u8]>, listing: Option<&mut [u8]>) -> u32 {
+        calls::passed_ways(sheet, state.unwrap_or(b""), listing.unwrap_or(&mut []))
     }
 }
 
@@ -272,6 +279,7 @@ impl<'a> Comparison<'a> {
         self.call(case, &mut state, Call::NextOrder)?;
         self.any_block(case, &state, dice)?;
         self.call(case, &mut state, Call::Reply(b'Y', 1))?;
+        self.plain_listing(case)?;
         self.plain_settlement(case)
     }
 
@@ -294,6 +302,7 @@ impl<'a> Comparison<'a> {
             self.some_journals(&case, &record, &mut dice)?;
             self.some_blocks(&case, &record, &mut dice)?;
             self.some_orders(&case, &record, &mut dice)?;
+            self.some_listings(&case, &record, &mut dice)?;
             self.some_above_the_limit(&case, &record, &mut dice)?;
             for _ in 0..2 {
                 self.campaign(&case, &mut dice)?;
