@@ -214,7 +214,7 @@ const FEWEST_ORDERS: u64 = 100_000;
 const FEWEST_SETTLED: u64 = 80_000;
 
 /// So many listings of the ways passed over are compared along campaigns before the rounds.
-const FEWEST_LISTINGS: u64 = 20_000;
+const FEWEST_LISTINGS: u64 = 40_000;
 
 /// So many orders are passed over in campaigns with desks before the rounds.
 const FEWEST_PASSED_OVER: u64 = 60_000;

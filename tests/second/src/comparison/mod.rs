@@ -313,9 +313,12 @@ impl<'a> Comparison<'a> {
             let spoiled = Case::new(&generate::spoil_sheet(&mut dice, &sheet));
             self.compare_sheet(&spoiled, &mut dice)?;
         }
-        match recorded {
-            Some(record) => self.some_settlements(&case, &record, &mut dice),
-            None => Ok(()),
+        if let Some(record) = recorded {
+            self.some_settlements(&case, &record, &mut dice)?;
+        }
+        match round % 8 {
+            5 if !self.check_only => self.listings_beside_a_tanker(&mut dice),
+            _ => Ok(()),
         }
     }
 }

@@ -22,6 +22,7 @@ const BOTH: &str = "listings: with N and with H";
 const LONG: &str = "listings: of 15 lines";
 const LONGEST: &str = "listings: of 16 lines";
 const FULL_SIZE: &str = "listings: with 64 bookings and 16 ways";
+const FULL_SIZE_H: &str = "listings: with 64 bookings and 16 ways, and with H";
 const LINKS: &str = "listings: with 64 bookings, 512 links and 16 ways";
 const EXACT: &str = "listings: a buffer of the listing's length";
 const LONGER: &str = "listings: a longer buffer";
@@ -52,15 +53,16 @@ const CAMPAIGNS: &str = "listings: of campaigns and beside them";
 pub const NOT_TRUE: &str = "not the listing of this state: ";
 
 /// What must have been met so often before the rounds, or too little was shown.
-const FEWEST: [(&str, u64); 29] = [
+const FEWEST: [(&str, u64); 30] = [
     (LISTED, 50_000),
     (EMPTY, 20_000),
     (CALLED_OFF, 5_000),
     (BOTH, 300),
-    (LONG, 100),
-    (LONGEST, 150),
-    (FULL_SIZE, 600),
-    (LINKS, 250),
+    (LONG, 1_000),
+    (LONGEST, 200),
+    (FULL_SIZE, 2_000),
+    (FULL_SIZE_H, 1_000),
+    (LINKS, 1_000),
     (EXACT, 8_000),
     (LONGER, 40_000),
     (NULL, 5_000),
@@ -412,6 +414,7 @@ impl Comparison<'_> {
             (LONG, lines.len() == 15),
             (LONGEST, lines.len() == 16),
             (FULL_SIZE, full),
+            (FULL_SIZE_H, full && has(b'H')),
             (LINKS, full && plan.links.len() == MOST_LINKS),
             (EXACT, listed.buffer.len() == length),
             (LONGER, listed.buffer.len() > length),
@@ -463,20 +466,30 @@ impl Comparison<'_> {
         self.refused_before_listings(&mut dice)?;
         self.unsound_before_listings(&mut dice)?;
         self.every_small_listing()?;
-        self.every_listing_of_a_few(200, &mut dice)?;
+        self.every_listing_of_a_few(300, &mut dice)?;
         self.listings_at_the_limits(&mut dice)?;
         let mut cases = passing();
         cases.extend(flights::wide().iter().map(case_of));
         let enough = self.tally.count_of_events(CAMPAIGNS) + fewest;
         while self.tally.count_of_events(CAMPAIGNS) < enough {
             self.part = "listings of campaigns".to_string();
-            let (n, ways) = (dice.between(5, 12), dice.between(3, 8));
-            let mixed = case_of(&tanker_held(&mut dice, n, ways));
-            let case = if dice.percent(50) { &mixed } else { &cases[dice.below(cases.len())] };
+            if dice.percent(50) {
+                self.listings_beside_a_tanker(&mut dice)?;
+                continue;
+            }
+            let case = &cases[dice.below(cases.len())];
             let record = self.campaign(case, &mut dice)?;
             self.some_listings(case, &record, &mut dice)?;
         }
         Ok(())
+    }
+
+    /// A campaign in which ways are passed over for a tanker that is held: few random plans have such.
+    pub fn listings_beside_a_tanker(&mut self, dice: &mut Dice) -> Outcome {
+        let (n, ways) = (dice.between(5, 12), dice.between(3, 8));
+        let case = case_of(&tanker_held(dice, n, ways));
+        let record = self.campaign(&case, dice)?;
+        self.some_listings(&case, &record, dice)
     }
 
     /// Whether enough was compared before the rounds.
@@ -565,18 +578,20 @@ impl Comparison<'_> {
         self.part = "listings at the limits".to_string();
         for plan in [full_size(), separate(), tanker_held(dice, 64, 16), tanker_held(dice, 64, 16)] {
             let case = case_of(&plan);
-            for _ in 0..4 {
+            for _ in 0..6 {
                 let record = self.campaign(&case, dice)?;
                 (0..10).try_for_each(|_| self.some_listings(&case, &record, dice))?;
             }
         }
         let case = case_of(&full_size());
-        for _ in 0..400 {
-            let mut chosen = |from, to| (from..=to).filter(|_| dice.percent(60)).collect::<Vec<_>>();
-            let state = full_size_state(&chosen(55, 64), &chosen(52, 54));
+        for _ in 0..1_000 {
+            // With all ten held it is sound, with fewer only if enough is lost.
+            let held: Vec<usize> = (55..=64).filter(|_| dice.percent(95)).collect();
+            let lost: Vec<usize> = (52..=54).filter(|_| dice.percent(50)).collect();
+            let state = full_size_state(&held, &lost);
             self.any_listing(&case, &state, dice)?;
         }
-        for round in 0..40 {
+        for round in 0..60 {
             let size = [SMALL, MIDDLE, MIDDLE, LIMITS][round % 4];
             let case = case_of(&generate::random_plan(dice, size));
             if case.network().is_some() {
