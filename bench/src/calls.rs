@@ -3,6 +3,7 @@
 use crate::block;
 use crate::check::{self, Network};
 use crate::journal;
+use crate::passed;
 use crate::plan;
 use crate::refusal::Refusal;
 use crate::run::{Change, Order, Run, STATE_LENGTH};
@@ -123,6 +124,17 @@ pub fn settle(sheet: &[u8], fees: &[u8], journal: &[u8], report: &mut [u8]) -> u
     let mut step = || {
         let network = judge(sheet)?;
         Ok(pack(6, 0, settle::settle(&network, fees, journal, report)?))
+    };
+    answer(step())
+}
+
+#[inline(never)]
+pub fn passed_ways(sheet: &[u8], state: &[u8], listing: &mut [u8]) -> u32 {
+    let mut step = || {
+        let network = judge(sheet)?;
+        let bytes = state.try_into().map_err(|_| UNSOUND)?;
+        let run = Run::of_bytes(&network, bytes).ok_or(UNSOUND)?;
+        Ok(pack(6, 0, passed::list(&run, &network, listing)?))
     };
     answer(step())
 }

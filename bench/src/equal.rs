@@ -3,6 +3,8 @@
 use crate::blocks::{self, block_of, Wide};
 use crate::campaign::{record, Dice, State};
 use crate::journal::LINE_LENGTH;
+use crate::listings::{self, Listed, LONGEST_LISTING};
+use crate::passed::PASSED_LINE;
 use crate::settle::FEE_LINE;
 use crate::settlements::{fees_for, length_for, LONGEST_REPORT};
 use crate::sheets::{Endless, Sheet};
@@ -64,6 +66,21 @@ impl Compared {
     }
 }
 
+/// Of a listing too, and the state stays as it is.
+impl Compared {
+    fn list(&mut self, sheet: &[u8], state: &[u8], room: usize) {
+        let (mut here, mut there) = (vec![9; room], vec![9; room]);
+        let lent = state.to_vec();
+        let answer = library::passed_ways(sheet, std::hint::black_box(&lent), &mut here);
+        self.same(answer, calls::passed_ways(sheet, state, &mut there), "passed ways", sheet);
+        if here != there || lent != state {
+            let (here, there) = (String::from_utf8_lossy(&here), String::from_utf8_lossy(&there));
+            eprintln!("bench: passed ways: listings differ, or the state changed\n{here}\n{there}");
+            std::process::exit(1);
+        }
+    }
+}
+
 #[derive(Clone, Copy)]
 enum Step<'a> {
     Start,
@@ -89,6 +106,7 @@ fn damaged_sheets(compared: &mut Compared, sheet: &[u8], dice: &mut Dice, times:
         compared.step(&bytes, &[0; 65], "restart, damaged sheet", Step::Restart(b"Q   1\nY   1\n"));
         compared.step(&bytes, &[1; 65], "block, damaged sheet", Step::Block(b"Y   1\nN   2\n"));
         compared.settle(&bytes, b"F   1     3     4     2      \n", b"Q   1\nY   1\n", 98);
+        compared.list(&bytes, &[0; 65], 22);
     }
 }
 
@@ -177,6 +195,14 @@ fn some_blocks(compared: &mut Compared, sheet: &[u8], state: &State, dice: &mut 
     compared.step(sheet, &damaged(state, dice), "block, damaged state", Step::Block(&block));
 }
 
+/// The ways before the current one listed, with room of any length.
+fn some_listings(compared: &mut Compared, sheet: &[u8], state: &State, dice: &mut Dice) {
+    let needed = listings::lines(sheet, state).0 * PASSED_LINE;
+    for room in [LONGEST_LISTING, needed, needed + 1, needed.saturating_sub(1), dice.below(LONGEST_LISTING)] {
+        compared.list(sheet, state, room);
+    }
+}
+
 fn campaigns(compared: &mut Compared, sheet: &[u8], dice: &mut Dice, most: usize) {
     let before = compared.calls;
     for seed in 0.. {
@@ -185,6 +211,8 @@ fn campaigns(compared: &mut Compared, sheet: &[u8], dice: &mut Dice, most: usize
             compared.step(sheet, state, "next order", Step::Order);
             let bytes = damaged(state, dice);
             compared.step(sheet, &bytes, "next order, damaged state", Step::Order);
+            some_listings(compared, sheet, state, dice);
+            compared.list(sheet, &bytes, dice.below(LONGEST_LISTING + 20));
         }
         for &(state, letter, booking) in &campaign.replies {
             compared.step(sheet, &state, "reply", Step::Reply(letter, booking));
@@ -249,6 +277,19 @@ pub fn compare_settlements(sheets: &[Endless]) -> usize {
             let answer = library::settle(sheet, &fees, &longer[..bytes], &mut [9; LONGEST_REPORT]);
             compared.same(answer, due, "settle, around 10,000 lines", sheet);
             compared.settle(sheet, &fees, &longer[..bytes], LONGEST_REPORT);
+        }
+    }
+    compared.calls
+}
+
+/// The same for the listings that are measured.
+pub fn compare_listings(all: &[Listed]) -> usize {
+    let mut compared = Compared { calls: 0 };
+    let mut dice = Dice(1);
+    for Listed { sheet, states } in all {
+        for state in states {
+            (0..20).for_each(|_| some_listings(&mut compared, &sheet.bytes, state, &mut dice));
+            (0..200).for_each(|_| compared.list(&sheet.bytes, &damaged(state, &mut dice), LONGEST_LISTING));
         }
     }
     compared.calls

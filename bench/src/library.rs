@@ -38,6 +38,14 @@ extern "C" {
         report: *mut u8,
         report_len: usize,
     ) -> u32;
+    fn campaign_passed_ways(
+        sheet: *const u8,
+        sheet_len: usize,
+        state: *const u8,
+        state_len: usize,
+        listing: *mut u8,
+        listing_len: usize,
+    ) -> u32;
 }
 
 // Safe: pointer and length come from one slice, and any bytes are allowed.
@@ -76,4 +84,9 @@ pub fn settle(sheet: &[u8], fees: &[u8], journal: &[u8], report: &mut [u8]) -> u
     let (fees, fees_length, text, text_length) =
         (fees.as_ptr(), fees.len(), report.as_mut_ptr(), report.len());
     unsafe { campaign_settle(plan, plan_length, fees, fees_length, lines, length, text, text_length) }
+}
+
+pub fn passed_ways(sheet: &[u8], state: &[u8], listing: &mut [u8]) -> u32 {
+    let (text, length) = (listing.as_mut_ptr(), listing.len());
+    unsafe { campaign_passed_ways(sheet.as_ptr(), sheet.len(), state.as_ptr(), state.len(), text, length) }
 }

@@ -10,7 +10,9 @@ mod check;
 mod equal;
 mod journal;
 mod library;
+mod listings;
 mod measure;
+mod passed;
 mod plan;
 mod refusal;
 mod restart;
@@ -21,6 +23,7 @@ mod sheets;
 
 use blocks::Wide;
 use campaign::{record, Campaign, State};
+use listings::{Listed, LONGEST_LISTING};
 use measure::{measure, stack, Pass, Times};
 use settlements::{fees_for, LONGEST_REPORT};
 use sheets::Sheet;
@@ -91,6 +94,19 @@ fn time_replies(sheet: &[u8], replies: &[(State, u8, u32)]) -> Three {
     three(sheet, replies.len(), &mut pass(library::reply), &mut pass(calls::reply))
 }
 
+/// From the states of the orders.
+fn time_listings(sheet: &[u8], states: &[State]) -> Three {
+    let pass = |call: fn(&[u8], &[u8], &mut [u8]) -> u32| {
+        let mut listing = [0; LONGEST_LISTING];
+        move || {
+            for state in states {
+                black_box(call(black_box(sheet), black_box(state), &mut listing));
+            }
+        }
+    };
+    three(sheet, states.len(), &mut pass(library::passed_ways), &mut pass(calls::passed_ways))
+}
+
 fn print_call(sheet: &Sheet, call: &str, times: Three) {
     println!(
         "| {} | {call} | {:.0} | {:.0} | {:.2} | {:.0} | {:.2} |",
@@ -115,6 +131,7 @@ fn print_calls(sheets: &[Sheet]) {
         print_call(sheet, "start", time_start(bytes));
         print_call(sheet, "next order", time_orders(bytes, &campaign.orders));
         print_call(sheet, "reply", time_replies(bytes, &campaign.replies));
+        print_call(sheet, "passed ways", time_listings(bytes, &campaign.orders));
     }
     let longest = sheets::longest_text();
     print_call(&longest, "check", time_check(&longest.bytes));
@@ -137,6 +154,21 @@ fn print_growth(title: &str, series: &[Sheet]) {
 }
 
 type Call<'a> = Box<dyn FnMut() + Send + 'a>;
+
+fn settling<'a>(
+    call: fn(&[u8], &[u8], &[u8], &mut [u8]) -> u32,
+    sheet: &'a [u8],
+    fees: &'a [u8],
+    journal: &'a [u8],
+) -> Call<'a> {
+    let mut report = [0; LONGEST_REPORT];
+    Box::new(move || _ = black_box(call(sheet, fees, journal, &mut report)))
+}
+
+fn listing(call: fn(&[u8], &[u8], &mut [u8]) -> u32, sheet: &[u8], state: State) -> Call<'_> {
+    let mut listing = [0; LONGEST_LISTING];
+    Box::new(move || _ = black_box(call(sheet, &state, &mut listing)))
+}
 
 /// Each call of both versions on this sheet, as closures: (name, library, Rust).
 fn calls_on<'a>(
@@ -165,10 +197,8 @@ fn calls_on<'a>(
     };
     let block_to = |call| with_lines(call, reply.0, block);
     let restart_with = |call| with_lines(call, state, journal);
-    let settle = |call: fn(&[u8], &[u8], &[u8], &mut [u8]) -> u32| -> Call<'a> {
-        let mut report = [0; LONGEST_REPORT];
-        Box::new(move || _ = black_box(call(sheet, fees, journal, &mut report)))
-    };
+    let settle = |call| settling(call, sheet, fees, journal);
+    let list = |call| listing(call, sheet, state);
     let check = |call: fn(&[u8]) -> u32| -> Call<'a> { Box::new(move || _ = black_box(call(sheet))) };
     vec![
         ("check", check(library::check), check(calls::check)),
@@ -178,6 +208,7 @@ fn calls_on<'a>(
         ("reply block", block_to(library::reply_block), block_to(calls::reply_block)),
         ("restart", restart_with(library::restart), restart_with(calls::restart)),
         ("settle", settle(library::settle), settle(calls::settle)),
+        ("passed ways", list(library::passed_ways), list(calls::passed_ways)),
     ]
 }
 
@@ -220,16 +251,17 @@ fn main() {
     compared += equal::compare_settlements(&endless);
     let wide: Vec<Wide> = sheets::for_blocks(&examples).into_iter().map(blocks::widest).collect();
     compared += equal::compare_blocks(&wide);
+    let listed: Vec<Listed> = sheets::for_listings(&examples).into_iter().map(listings::longest).collect();
+    compared += equal::compare_listings(&listed);
     println!("# The library and a Rust version on bit sets\n");
     println!("Both were given the same calls first, {compared} of them, and answered alike.");
-    println!("Each time is the best of many short rounds, each ratio the median of the rounds' ratios; next order and");
-    println!(
-        "reply are means over up to {MEASURED} calls spread over a campaign, each on a copy of its state.\n"
-    );
+    println!("Each time is the best of many short rounds, each ratio the median of the rounds' ratios; next order, reply and");
+    println!("passed ways are means over up to {MEASURED} calls spread over a campaign, each order and reply on a copy of its state.\n");
     print_calls(&sheets);
     blocks::print_blocks(&wide);
     restart::print_restart(&endless);
     settlements::print_settlements(&endless[1..]);
+    listings::print_listings(&listed);
     println!("## How the time grows\n");
     print_growth("With bookings", &by_bookings);
     print_growth("With links", &by_links);

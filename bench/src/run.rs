@@ -69,6 +69,25 @@ impl Run {
         }
     }
 
+    /// The ways before the current one, all of them when it is called off.
+    pub fn earlier<'a>(&self, network: &'a Network) -> &'a [u64] {
+        if self.way == 0 {
+            network.way_sets()
+        } else {
+            &network.way[..self.way - 1]
+        }
+    }
+
+    /// Why an earlier way is not live: its lowest lost booking, or else the lowest held firm one that it lacks.
+    pub fn why_passed(&self, network: &Network, way: u64) -> (u8, u32) {
+        let (lost, lacked) = (way & self.lost, self.held & network.firm & !way);
+        if lost != 0 {
+            (b'N', lost.trailing_zeros())
+        } else {
+            (b'H', lacked.trailing_zeros())
+        }
+    }
+
     /// What the desks have open.
     fn matters(&self) -> u64 {
         self.requested | self.returning
@@ -95,14 +114,13 @@ impl Run {
     fn is_sound(&self, network: &Network) -> bool {
         let way = self.current(network);
         let outside = self.held & !way | self.returning;
-        let earlier = if self.way == 0 { network.way_sets() } else { &network.way[..self.way - 1] };
         let lost_here = self.lost & way;
         self.stands(network, self.requested | self.held | self.returning)
             && self.lost & !network.exposed == 0
             && self.requested & !way == 0
             && self.returning & (network.firm | way) == 0
             && (outside == 0 || self.requested == 0)
-            && earlier.iter().all(|&way| !self.is_live(network, way))
+            && self.earlier(network).iter().all(|&way| !self.is_live(network, way))
             && self.held & network.firm & !way == 0
             && (lost_here == 0 || self.requested != 0)
             && self.stands(network, lost_here)

@@ -137,6 +137,31 @@ pub fn for_blocks(examples: &str) -> Vec<Sheet> {
     ]
 }
 
+/// As many bookings, links and ways as there can be: 51 come before ten repeatables, and three more may
+/// be lost. The first way has them all, the last the 51 and the ten, and each between them lacks one of
+/// the ten, or two. So if one of the three is lost late, the ways between are passed over for what they lack.
+fn ten_firm() -> Vec<u8> {
+    let mut links: Vec<_> = (1..=51).flat_map(|u| (55..=64).map(move |v| (u, v))).collect();
+    links.extend([(1, 2), (1, 3)]);
+    links.sort();
+    let lacks = |way: usize, b: usize| match way {
+        0 => false,
+        1..=10 => b == 54 + way || (52..=54).contains(&b),
+        11..=14 => b == 44 + way || b == 49 + way || (52..=54).contains(&b),
+        _ => (52..=54).contains(&b),
+    };
+    let ways: Vec<Vec<usize>> = (0..16).map(|way| (1..=64).filter(|&b| !lacks(way, b)).collect()).collect();
+    write_sheet(&("C".repeat(54) + &"R".repeat(10)), &links, &ways)
+}
+
+/// The smallest, the Tanker and full size; and full size with a booking after whose refusal most ways
+/// lack something.
+pub fn for_listings(examples: &str) -> Vec<(Sheet, Option<usize>)> {
+    let firm = Sheet { name: "full size, ten firm (64, 512, 16)".to_string(), bytes: ten_firm() };
+    let others = main_sheets(examples).into_iter().take(4).map(|sheet| (sheet, None));
+    others.chain([(firm, Some(52))]).collect()
+}
+
 /// Small sheets: one with the kind that few of the main ones have, D, and one with two desks
 /// that take on a single matter.
 pub fn compared_only(examples: &str) -> Vec<Sheet> {
