@@ -11,6 +11,7 @@
  *     Sheets     campaign_check
  *     The run    campaign_start, campaign_next_order, campaign_reply,
  *                campaign_reply_block
+ *     Story      campaign_passed_ways
  *     Journal    campaign_journal_line, campaign_restart
  *     Bill       campaign_settle
  *
@@ -19,16 +20,17 @@
  * ----------------
  * A pointer must reach as many bytes as its length says. A length of 0 lends
  * nothing, and the pointer may then be null: so an empty journal or block may be
- * lent as NULL, 0. What a call may write (state, line, report) must not overlap
- * with anything else that it is lent. Beyond that every byte and every length is
- * allowed: what is wrong with them is answered by a refusal. A refused call
- * leaves every lent byte as it was; only campaign_reply_block keeps the replies
- * before a bad line of its block.
+ * lent as NULL, 0. What a call may write (state, line, report, listing) must not
+ * overlap with anything else that it is lent. Beyond that every byte and every
+ * length is allowed: what is wrong with them is answered by a refusal. A refused
+ * call leaves every lent byte as it was; only campaign_reply_block keeps the
+ * replies before a bad line of its block.
  *
  * Nothing is kept between the calls: all of a campaign stands in its sheet and
  * its state. Calls on different states may run at the same time; while a call
  * runs, nobody else may write its sheet, block, journal or fees or touch its
- * state, line or report.
+ * state, line, report or listing. campaign_passed_ways only reads the state, so
+ * others may read it meanwhile.
  *
  *
  * The plan sheet
@@ -100,6 +102,11 @@ extern "C" {
 #define CAMPAIGN_BLOCK_LINE_LENGTH 6
 #define CAMPAIGN_JOURNAL_LINE_LENGTH 6
 
+/* A listing of ways that were passed over: bytes of a line, and the most of them
+   all. */
+#define CAMPAIGN_PASSED_LINE_LENGTH 11
+#define CAMPAIGN_LONGEST_LISTING 176
+
 /* A bill: bytes of a line of the fee sheet, of a booking's line, of a way's line
    and of the last line in the report, and the most of them all; lines that a
    journal may have. */
@@ -135,9 +142,10 @@ enum campaign_kind {
     /* The end: nothing is held (0). */
     CAMPAIGN_CALLED_OFF = 5,
     /* check, start: the sheet passes (0); reply: it was taken (the booking);
-       block: all its replies were taken (their number); journal line: it was
-       written (its length, 6); restart: the journal is right (0); settle: the
-       report was written (its length). */
+       block: all its replies were taken (their number); passed ways: the
+       listing was written (its length); journal line: it was written (its
+       length, 6); restart: the journal is right (0); settle: the report was
+       written (its length). */
     CAMPAIGN_ACCEPTED = 6
 };
 
@@ -353,6 +361,57 @@ static inline uint32_t campaign_kept_of(uint32_t answer)
         return place - 1;
     return 0;
 }
+
+/* =============================== Story ================================ */
+
+/*
+ * Why is this way the current one, and none that is wanted more? A listing tells
+ * it: one line of 11 bytes for each way before the current one, lowest first, and
+ * no other; for every way if the campaign is being called off or has been. A line
+ * is V, the way in four columns, the letter of a reason, a booking in four
+ * columns, a line feed.
+ *
+ * For example, 1 is a chase aircraft, 2 a range slot, 3 a tanker, which can't be
+ * given back; the ways are 1 2 3, then 2, then 2 3. The chase aircraft was
+ * refused, but by then the tanker had been requested, and it was confirmed. Way 3
+ * is current:
+ *
+ *     V   1N   1      way 1 is out: booking 1 was refused
+ *     V   2H   3      way 2 is out: it lacks booking 3, which is held and can't
+ *                     be given back
+ */
+
+/* Letters of a listing's line: why the way can't be flown any more. */
+enum campaign_passed_letter {
+    /* The way needs this booking, and it is lost (code 3): its desk refused it for
+       good. Others of the way may be lost too; this is the lowest. */
+    CAMPAIGN_WAY_LOST = 'N',
+    /* None of the way's bookings is lost, but the way lacks this one, which is
+       held and can't be given back (P or R). It may lack others such; this is the
+       lowest. */
+    CAMPAIGN_WAY_LACKS = 'H'
+};
+
+/*
+ * The story of the current way, from sheet and state. The state is only read.
+ *
+ * Accepted with the length of the listing as place, 11 for each line; the listing
+ * stands at the front of the lent bytes, and later bytes keep their values. An
+ * empty listing, length 0, means that way 1 is current: no way was passed over.
+ * It needs no room, so NULL, 0 may be lent for it. Refused with 1 to 8 as by check,
+ * then with 11 if the state has not 65 bytes or is not sound, then with 10 if the
+ * listing has no room in listing_len bytes. CAMPAIGN_LONGEST_LISTING bytes are
+ * always enough.
+ *
+ * state[0] is the current way: ask when it has changed, and at the end. The
+ * current way itself has no line, even while one of its bookings is lost and
+ * other desks have still to decide. Each line is about the state as it is now:
+ * later the same way may have a line with a lower booking, or with N in place of
+ * H, as more bookings are lost or held.
+ */
+uint32_t campaign_passed_ways(const uint8_t *sheet, size_t sheet_len,
+                              const uint8_t *state, size_t state_len,
+                              uint8_t *listing, size_t listing_len);
 
 /* ============================== Journal =============================== */
 
