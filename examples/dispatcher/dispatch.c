@@ -4,6 +4,7 @@
 #include "block.h"
 #include "books.h"
 #include "desks.h"
+#include "story.h"
 #include "words.h"
 
 #include <inttypes.h>
@@ -21,6 +22,7 @@ struct run {
     uint8_t *state; /* the library's 65 bytes */
     struct desks desks;
     struct books books;
+    struct story story; /* as it was asked for last */
     struct journal *journal;
     struct tally *tally;
     enum outcome outcome;
@@ -191,19 +193,17 @@ static bool give_order(struct run *run, uint8_t letter, uint32_t answer)
 
 /* Why the way changed. */
 
-static void say_why_passed_over(const struct run *run, unsigned way)
+/* The listing of the state as it is now, which our books must agree with. */
+static bool ask_story(struct run *run)
 {
-    uint64_t lost = run->plan->way[way] & books_coded(&run->books, CAMPAIGN_LOST);
-    uint64_t missing = books_held_firm(&run->books) & ~run->plan->way[way];
-    say(run, "  -- way %u is passed over:", way);
-    if (lost != 0) {
-        say(run, " it needs what is lost:");
-        say_set(run, lost);
-    } else {
-        say(run, " it has no place for what can't be given back:");
-        say_set(run, missing);
-    }
-    say(run, "\n");
+    const char *fault = story_ask(&run->story, run->state, &run->books);
+    return fault == NULL || blame(run, fault, run->story.answer);
+}
+
+static void say_story(const struct run *run, unsigned from, const char *front)
+{
+    if (run->task->log != NULL)
+        story_write(&run->story, from, front, run->task->log);
 }
 
 static void say_way(const struct run *run, const char *word)
@@ -214,18 +214,18 @@ static void say_way(const struct run *run, const char *word)
     say(run, "\n");
 }
 
-static void say_change(const struct run *run, unsigned before, unsigned after)
+/* The ways before the one that was current were told when it became so. */
+static bool tell_change(struct run *run, unsigned before)
 {
-    say(run, "  -- way %u can't be flown any more, lost:", before);
-    say_set(run, run->plan->way[before] & books_coded(&run->books, CAMPAIGN_LOST));
-    say(run, "; no desk is still deciding\n");
-    unsigned last = after == 0 ? run->plan->ways : after - 1;
-    for (unsigned way = before + 1; way <= last; way++)
-        say_why_passed_over(run, way);
-    if (after == 0)
+    if (!ask_story(run))
+        return false;
+    say(run, "  -- way %u is given up: no desk is still deciding\n", before);
+    say_story(run, before, "  -- ");
+    if (run->books.code[0] == 0)
         say(run, "  -- no way is left: calling off\n");
     else
         say_way(run, "now");
+    return true;
 }
 
 static void say_patience(const struct run *run, unsigned way)
@@ -272,13 +272,14 @@ static bool enter_reply(struct run *run, struct entry reply)
     return books_agree(run) || blame(run, "state and books differ after a reply", answer);
 }
 
-static void say_reply(const struct run *run, struct reply reply, unsigned before)
+static bool tell_reply(struct run *run, struct reply reply, unsigned before)
 {
     say(run, "  desk %u says: %s (booking %" PRIu32 ", order %lu)\n", run->plan->desk[reply.what.booking],
         words_for_reply(run, reply.what), reply.what.booking, reply.order);
-    if (run->books.code[0] != before)
-        say_change(run, before, run->books.code[0]);
+    if (run->books.code[0] != before && !tell_change(run, before))
+        return false;
     say_patience(run, before);
+    return true;
 }
 
 static bool take_reply(struct run *run, struct reply reply)
@@ -286,8 +287,7 @@ static bool take_reply(struct run *run, struct reply reply)
     unsigned before = run->books.code[0];
     if (!enter_reply(run, reply.what) || !keep(run, reply.what))
         return false;
-    say_reply(run, reply, before);
-    return true;
+    return tell_reply(run, reply, before);
 }
 
 static void discard(struct run *run, struct reply reply)
@@ -415,15 +415,19 @@ static bool block_agrees(struct run *run, const struct arrived *taken, size_t co
         || blame(run, "state and books differ after a block", answer);
 }
 
-static void enter_block(struct run *run, const struct arrived *taken, size_t count_taken)
+/* The state is that after all of them. Where one changes the way no request is open, and what follows are replies to
+   returns: they change nothing of the story. */
+static bool enter_block(struct run *run, const struct arrived *taken, size_t count_taken)
 {
     for (size_t i = 0; i < count_taken; i++) {
         unsigned before = run->books.code[0];
         books_reply(&run->books, taken[i].reply.what);
         count(run, taken[i].reply.what);
         run->tally->switches += run->books.code[0] != before;
-        say_reply(run, taken[i].reply, before);
+        if (!tell_reply(run, taken[i].reply, before))
+            return false;
     }
+    return true;
 }
 
 static void say_bad_line(struct run *run, const struct arrived *bad, uint32_t answer)
@@ -447,7 +451,8 @@ static bool take_block(struct run *run, const struct block *block, size_t *from,
     run->tally->blocks++;
     run->tally->most_at_once = kept > run->tally->most_at_once ? kept : run->tally->most_at_once;
     say(run, "  -- a block of %zu %s\n", count, count == 1 ? "reply" : "replies");
-    enter_block(run, arrived, kept);
+    if (!enter_block(run, arrived, kept))
+        return false;
     if (kept < count)
         say_bad_line(run, arrived + kept, answer);
     *from += kept < count ? kept + 1 : kept;
@@ -607,10 +612,11 @@ static bool ended(struct run *run, uint32_t answer)
 {
     if (books_coded(&run->books, CAMPAIGN_REQUESTED) != 0 || books_coded(&run->books, CAMPAIGN_RETURNING) != 0)
         return blame(run, "ended while a reply is outstanding", answer);
-    if (!journal_agrees(run))
+    if (!journal_agrees(run) || !ask_story(run))
         return false;
     if (!(campaign_kind_of(answer) == CAMPAIGN_FLOWN ? flown(run, answer) : called_off(run, answer)))
         return false;
+    say_story(run, 1, "story: ");
     unsigned most = books_most_matters(&run->books);
     run->tally->most_matters = most > run->tally->most_matters ? most : run->tally->most_matters;
     if (run->task->log != NULL)
@@ -738,6 +744,8 @@ static bool go_on(struct run *run)
         return true;
     }
     say(run, "  -- going on after %zu lines of the journal\n", lines);
+    /* The program may have been stopped before it came to tell this. */
+    say_story(run, 1, "  -- ");
     if (run->state[0] == 0)
         say(run, "  -- calling off\n");
     else
@@ -752,9 +760,9 @@ static bool start(struct run *run)
         return blame(run, "start did not begin with way 1 and all bookings free", answer);
     if (!take_up_journal(run))
         return false;
-    /* Before any order goes out: what can't be billed later shows now. */
+    /* Before any order goes out: what can't be told or billed later shows now. */
     struct bill so_far;
-    if (run->task->fees != NULL && !settle(run, &so_far))
+    if (!ask_story(run) || (run->task->fees != NULL && !settle(run, &so_far)))
         return false;
     say(run, "campaign of seed %" PRIu64 ": %u bookings, %u ways, most matters open per desk %u; desks refuse %u in 100\n",
         run->task->seed, run->plan->bookings, run->plan->ways, run->plan->limit, run->desks.refusing);
