@@ -35,6 +35,8 @@ uint32_t __real_campaign_reply(const uint8_t *sheet, size_t sheet_len, uint8_t *
                                uint8_t letter, uint32_t booking);
 uint32_t __real_campaign_reply_block(const uint8_t *sheet, size_t sheet_len, const uint8_t *block, size_t block_len,
                                      uint8_t *state, size_t state_len);
+uint32_t __real_campaign_passed_ways(const uint8_t *sheet, size_t sheet_len, const uint8_t *state, size_t state_len,
+                                     uint8_t *listing, size_t listing_len);
 uint32_t __real_campaign_settle(const uint8_t *sheet, size_t sheet_len, const uint8_t *fees, size_t fees_len,
                                 const uint8_t *journal, size_t journal_len, uint8_t *report, size_t report_len);
 void __real_desks_send(struct desks *desks, struct order order);
@@ -47,6 +49,8 @@ uint32_t __wrap_campaign_reply(const uint8_t *sheet, size_t sheet_len, uint8_t *
                                uint8_t letter, uint32_t booking);
 uint32_t __wrap_campaign_reply_block(const uint8_t *sheet, size_t sheet_len, const uint8_t *block, size_t block_len,
                                      uint8_t *state, size_t state_len);
+uint32_t __wrap_campaign_passed_ways(const uint8_t *sheet, size_t sheet_len, const uint8_t *state, size_t state_len,
+                                     uint8_t *listing, size_t listing_len);
 uint32_t __wrap_campaign_settle(const uint8_t *sheet, size_t sheet_len, const uint8_t *fees, size_t fees_len,
                                 const uint8_t *journal, size_t journal_len, uint8_t *report, size_t report_len);
 void __wrap_desks_send(struct desks *desks, struct order order);
@@ -170,6 +174,13 @@ uint32_t __wrap_campaign_reply_block(const uint8_t *sheet, size_t sheet_len, con
     uint32_t answer = __real_campaign_reply_block(sheet, sheet_len, block, block_len, state, state_len);
     made += campaign_kept_of(answer);
     return answer;
+}
+
+uint32_t __wrap_campaign_passed_ways(const uint8_t *sheet, size_t sheet_len, const uint8_t *state, size_t state_len,
+                                     uint8_t *listing, size_t listing_len)
+{
+    demand(made <= synced, "a listing while the last line is not synced");
+    return __real_campaign_passed_ways(sheet, sheet_len, state, state_len, listing, listing_len);
 }
 
 uint32_t __wrap_campaign_settle(const uint8_t *sheet, size_t sheet_len, const uint8_t *fees, size_t fees_len,

@@ -1,6 +1,7 @@
 /* The header alone: compiles first in its file and twice, as C11 and C++17;
    its constants are the rules' numbers; the linked calls answer as it says, which
-   was worked out by hand from the rules. settle.c does the same for the bill. */
+   was worked out by hand from the rules. story.c does the same for the ways that
+   were passed over, settle.c for the bill. */
 #include "campaign.h"
 #include "campaign.h"
 
@@ -33,6 +34,10 @@ FIXED(CAMPAIGN_CONFIRMED == 89 && CAMPAIGN_DECLINED == 78);
 FIXED(CAMPAIGN_RETURNED == 71 && CAMPAIGN_KEPT == 75);
 FIXED(CAMPAIGN_REQUEST_LETTER == 81 && CAMPAIGN_RETURN_LETTER == 85);
 FIXED(CAMPAIGN_BLOCK_LINE_LENGTH == 6 && CAMPAIGN_JOURNAL_LINE_LENGTH == 6);
+
+FIXED(CAMPAIGN_PASSED_LINE_LENGTH == 1 + 4 + 1 + 4 + 1);
+FIXED(CAMPAIGN_LONGEST_LISTING == CAMPAIGN_MOST_WAYS * CAMPAIGN_PASSED_LINE_LENGTH);
+FIXED(CAMPAIGN_WAY_LOST == 78 && CAMPAIGN_WAY_LACKS == 72);
 
 FIXED(CAMPAIGN_FEE_LINE_LENGTH == 1 + 4 + 6 + 6 + 6 + 6 + 1);
 FIXED(CAMPAIGN_SETTLED_LINE_LENGTH == 1 + 4 + 6 + 6 + 12 + 12 + 1);
@@ -442,6 +447,26 @@ static void nulls_of_a_block(void)
     expect_bytes("null: block", state, before, sizeof state);
 }
 
+static void nulls_of_a_listing(void)
+{
+    const uint8_t *sheet = (const uint8_t *) tanker;
+    size_t length = strlen(tanker);
+    uint8_t listing[CAMPAIGN_LONGEST_LISTING];
+    uint8_t first[CAMPAIGN_STATE_LENGTH] = {1};
+    uint8_t second[CAMPAIGN_STATE_LENGTH] = {2, 2, 2, 3};
+    /* While way 1 is current the listing is empty. */
+    expect("null listing, way 1", campaign_passed_ways(sheet, length, first, sizeof first, NULL, 0),
+           CAMPAIGN_ACCEPTED, 0, 0);
+    expect("null listing, way 2", campaign_passed_ways(sheet, length, second, sizeof second, NULL, 0),
+           0, CAMPAIGN_SHORT_BUFFER, 0);
+    expect("null state: listing", campaign_passed_ways(sheet, length, NULL, 0, listing, sizeof listing),
+           0, CAMPAIGN_UNSOUND, 0);
+    expect("null state and listing", campaign_passed_ways(sheet, length, NULL, 0, NULL, 0), 0, CAMPAIGN_UNSOUND, 0);
+    expect("null sheet: listing", campaign_passed_ways(NULL, 0, first, sizeof first, listing, sizeof listing),
+           0, CAMPAIGN_FORM, 1);
+    expect("all null: listing", campaign_passed_ways(NULL, 0, NULL, 0, NULL, 0), 0, CAMPAIGN_FORM, 1);
+}
+
 /* Desks and the most matters open per desk. */
 
 /* One booking; the limit and the desk as they stand on the sheet. */
@@ -652,5 +677,6 @@ int main(void)
     block_into_journal();
     kepts();
     nulls_of_a_block();
+    nulls_of_a_listing();
     return faults == 0 ? 0 : 1;
 }

@@ -11,6 +11,8 @@ uint32_t __real_campaign_reply(const uint8_t *sheet, size_t sheet_len, uint8_t *
                                uint8_t letter, uint32_t booking);
 uint32_t __real_campaign_reply_block(const uint8_t *sheet, size_t sheet_len, const uint8_t *block, size_t block_len,
                                      uint8_t *state, size_t state_len);
+uint32_t __real_campaign_passed_ways(const uint8_t *sheet, size_t sheet_len, const uint8_t *state, size_t state_len,
+                                     uint8_t *listing, size_t listing_len);
 uint32_t __real_campaign_journal_line(uint8_t letter, uint32_t booking, uint8_t *line, size_t line_len);
 uint32_t __real_campaign_restart(const uint8_t *sheet, size_t sheet_len, const uint8_t *journal, size_t journal_len,
                                  uint8_t *state, size_t state_len);
@@ -21,6 +23,8 @@ uint32_t __wrap_campaign_reply(const uint8_t *sheet, size_t sheet_len, uint8_t *
                                uint8_t letter, uint32_t booking);
 uint32_t __wrap_campaign_reply_block(const uint8_t *sheet, size_t sheet_len, const uint8_t *block, size_t block_len,
                                      uint8_t *state, size_t state_len);
+uint32_t __wrap_campaign_passed_ways(const uint8_t *sheet, size_t sheet_len, const uint8_t *state, size_t state_len,
+                                     uint8_t *listing, size_t listing_len);
 uint32_t __wrap_campaign_journal_line(uint8_t letter, uint32_t booking, uint8_t *line, size_t line_len);
 uint32_t __wrap_campaign_restart(const uint8_t *sheet, size_t sheet_len, const uint8_t *journal, size_t journal_len,
                                  uint8_t *state, size_t state_len);
@@ -212,7 +216,7 @@ uint32_t __wrap_campaign_restart(const uint8_t *sheet, size_t sheet_len, const u
     return answer;
 }
 
-/* Bills. */
+/* Texts in columns. */
 
 static unsigned long number_in(const uint8_t *columns, size_t count)
 {
@@ -234,6 +238,115 @@ static void add_to(uint8_t *columns, int count, int more)
     write_number(columns, count, more < 0 && number == 0 ? 0 : number + (unsigned long) more);
 }
 
+static void exchange(uint8_t *one, uint8_t *other, size_t count)
+{
+    uint8_t kept[CAMPAIGN_WAY_LINE_LENGTH];
+    memcpy(kept, one, count);
+    memcpy(one, other, count);
+    memcpy(other, kept, count);
+}
+
+/* The story. Column 1 begins the way, 5 is the letter, 6 begins the booking. */
+
+/* The last booking that is lost, of whatever way. */
+static unsigned long last_lost(const uint8_t *state)
+{
+    unsigned long booking = CAMPAIGN_MOST_BOOKINGS;
+    while (booking > 0 && state[booking] != CAMPAIGN_LOST)
+        booking--;
+    return booking;
+}
+
+static void tell_line_wrongly(uint8_t *line, const uint8_t *state)
+{
+    int lacks = line[5] == CAMPAIGN_WAY_LACKS;
+    if (lie_is("tells what is held as lost") && lacks)
+        line[5] = CAMPAIGN_WAY_LOST;
+    if (lie_is("tells what is lost as held") && !lacks)
+        line[5] = CAMPAIGN_WAY_LACKS;
+    if (lie_is("tells another lost booking") && !lacks)
+        write_number(line + 6, 4, last_lost(state));
+    if (lie_is("tells another held booking") && lacks)
+        add_to(line + 6, 4, 1);
+    if (lie_is("tells the ways from 0"))
+        add_to(line + 1, 4, -1);
+    if (lie_is("tells the bookings to the left"))
+        exchange(line + 6, line + 9, 1);
+    if (lie_is("tells with another first letter"))
+        line[0] = 'W';
+    if (lie_is("tells without line feeds"))
+        line[10] = ' ';
+}
+
+/* What follows the lines that stay is as it was before the call. */
+static uint32_t tell_fewer_lines(uint8_t *listing, size_t length, const uint8_t *before, size_t fewer)
+{
+    memcpy(listing + length - fewer, before + length - fewer, fewer);
+    return packed(CAMPAIGN_ACCEPTED, (uint32_t) (length - fewer));
+}
+
+static uint32_t tell_other_lines(uint8_t *listing, size_t length, const uint8_t *before, const uint8_t *state)
+{
+    const size_t line = CAMPAIGN_PASSED_LINE_LENGTH;
+    if (lie_is("leaves out the first way")) {
+        memmove(listing, listing + line, length - line);
+        return tell_fewer_lines(listing, length, before, line);
+    }
+    if (lie_is("leaves out the way before the current one"))
+        return tell_fewer_lines(listing, length, before, line);
+    if (lie_is("tells nothing when called off") && state[0] == 0)
+        return tell_fewer_lines(listing, length, before, length);
+    if (lie_is("tells the ways from the last"))
+        exchange(listing, listing + length - line, line);
+    if (lie_is("tells the current way too") && state[0] != 0) {
+        memcpy(listing + length, listing + length - line, line);
+        write_number(listing + length + 1, 4, state[0]);
+        return packed(CAMPAIGN_ACCEPTED, (uint32_t) (length + line));
+    }
+    return packed(CAMPAIGN_ACCEPTED, (uint32_t) length);
+}
+
+static uint32_t tell_wrongly(uint8_t *listing, size_t length, const uint8_t *before, const uint8_t *state)
+{
+    const size_t line = CAMPAIGN_PASSED_LINE_LENGTH;
+    for (size_t at = 0; at < length; at += line)
+        tell_line_wrongly(listing + at, state);
+    uint32_t answer = tell_other_lines(listing, length, before, state);
+    if (lie_is("writes behind the listing"))
+        listing[length] = '\n';
+    if (lie_is("writes no listing"))
+        memcpy(listing, before, length);
+    if (lie_is("says a listing too long"))
+        return answer + 1;
+    if (lie_is("says a listing too short"))
+        return answer - 1;
+    if (lie_is("says the number of ways"))
+        return packed(CAMPAIGN_ACCEPTED, (uint32_t) (length / line));
+    if (lie_is("has no room for a listing"))
+        return (uint32_t) CAMPAIGN_SHORT_BUFFER << 16;
+    return answer;
+}
+
+uint32_t __wrap_campaign_passed_ways(const uint8_t *sheet, size_t sheet_len, const uint8_t *state, size_t state_len,
+                                     uint8_t *listing, size_t listing_len)
+{
+    uint8_t before[CAMPAIGN_LONGEST_LISTING];
+    memcpy(before, listing, listing_len);
+    uint32_t answer = __real_campaign_passed_ways(sheet, sheet_len, state, state_len, listing, listing_len);
+    size_t length = campaign_place_of(answer);
+    if (lie_is("refuses an empty listing") && length == 0)
+        return (uint32_t) CAMPAIGN_UNSOUND << 16;
+    if (lie_is("writes for an empty listing") && length == 0)
+        listing[0] = 'V';
+    if (lie_is("changes the state that it tells of") && length > 0)
+        ((uint8_t *) state)[CAMPAIGN_STATE_LENGTH - 1] ^= 1;
+    if (campaign_kind_of(answer) != CAMPAIGN_ACCEPTED || length == 0)
+        return answer;
+    return tell_wrongly(listing, length, before, state);
+}
+
+/* Bills. */
+
 /* How many lines with this letter the journal has for a booking. */
 static unsigned long lines_of(uint8_t letter, unsigned long booking, const uint8_t *journal, size_t length)
 {
@@ -242,14 +355,6 @@ static unsigned long lines_of(uint8_t letter, unsigned long booking, const uint8
     for (size_t at = 0; at + line <= length; at += line)
         count += journal[at] == letter && number_in(journal + at + 1, 4) == booking;
     return count;
-}
-
-static void exchange(uint8_t *one, uint8_t *other, size_t count)
-{
-    uint8_t kept[CAMPAIGN_WAY_LINE_LENGTH];
-    memcpy(kept, one, count);
-    memcpy(one, other, count);
-    memcpy(other, kept, count);
 }
 
 /* How many bookings and ways a sheet has, by its head. */

@@ -12,8 +12,8 @@
  *     stops [--blocks] --fees ..                 with a fee sheet, and so with a bill at the end
  *
  * What a campaign that was stopped must come to is taken from one that was not:
- * the same books, the same journal, the same bill. Works in FOLDER; the first
- * difference ends it with status 1.
+ * the same books, the same journal, the same story of the way, the same bill.
+ * Works in FOLDER; the first difference ends it with status 1.
  */
 #define _POSIX_C_SOURCE 200809L
 #include <fcntl.h>
@@ -54,7 +54,7 @@ static struct {
     unsigned long campaigns, cuts, tails, damaged, foreign, refused, kills, in_write, full, sent_again, discarded;
     unsigned long letters[128];
     unsigned long switches, called_off;
-    unsigned long within, changed, others;
+    unsigned long within, changed, others, told;
 } met;
 
 static void fail(const struct campaign *campaign, const char *format, ...)
@@ -100,6 +100,11 @@ static void write_file(const char *path, const char *at, size_t length)
 static bool same(struct bytes one, struct bytes other)
 {
     return one.length == other.length && memcmp(one.at, other.at, one.length) == 0;
+}
+
+static bool begins(const char *text, const char *word)
+{
+    return strncmp(text, word, strlen(word)) == 0;
 }
 
 static unsigned long times(const char *text, const char *word)
@@ -238,6 +243,30 @@ static int run(const struct campaign *campaign)
     return WEXITSTATUS(status);
 }
 
+/* The way that the line tells of behind these words; 0 if it is another line. */
+static unsigned way_told(const char *line, const char *words)
+{
+    char form[64];
+    unsigned way = 0;
+    int end = 0;
+    snprintf(form, sizeof form, "%sway %%u is out: %%n", words);
+    return begins(line, words) && sscanf(line, form, &way, &end) == 1 && end > 0 ? way : 0;
+}
+
+/* Before the end each way that was passed over is told once, in turn, also after a stop; at the end all of them are. */
+static void check_story(const struct campaign *campaign, const char *log)
+{
+    unsigned told = 0, at_end = 0;
+    for (const char *at = log; at != NULL; at = strchr(at, '\n'), at += at != NULL) {
+        unsigned way = way_told(at, "  -- "), whole = way_told(at, "story: ");
+        if ((way != 0 && way != ++told) || (whole != 0 && whole != ++at_end))
+            fail(campaign, "a way is told twice, or out of turn: %s", log);
+    }
+    if (told != at_end)
+        fail(campaign, "of %u ways that were passed over %u were told: %s", at_end, told, log);
+    met.told += told;
+}
+
 /* It must end well, with the books and the journal of the campaign that was not stopped. */
 static void check_end(const struct campaign *campaign, int status, const char *after)
 {
@@ -250,6 +279,7 @@ static void check_end(const struct campaign *campaign, int status, const char *a
         fail(campaign, "%s: other books:%s\nnot%s", after, books.at, campaign->books.at);
     if (!same(lines, campaign->journal))
         fail(campaign, "%s: another journal:\n%s\nnot\n%s", after, lines.at, campaign->journal.at);
+    check_story(campaign, log.at);
     free(log.at);
     free(books.at);
     free(lines.at);
@@ -262,11 +292,6 @@ static void free_campaign(struct campaign *campaign)
     free(campaign->journal.at);
     free(campaign->books.at);
     free(campaign->within.at);
-}
-
-static bool begins(const char *text, const char *word)
-{
-    return strncmp(text, word, strlen(word)) == 0;
 }
 
 /* From the log, which tells orders and replies in the journal's order, and where a block begins. */
@@ -308,6 +333,7 @@ static struct campaign fly(const char *sheet, unsigned seed)
         fail(&campaign, "without a stop: no books, or no whole lines");
     if (billed)
         check_bill(&campaign);
+    check_story(&campaign, log.at);
     free(log.at);
     return campaign;
 }
@@ -479,12 +505,15 @@ static void check_variety(void)
             fail(NULL, "hardly any %c among the lines", *letter);
     if (met.called_off < met.campaigns / 10 || met.switches < met.campaigns / 4 || met.discarded < met.campaigns)
         fail(NULL, "hardly a way changed, a campaign called off, or a reply repeated");
+    if (met.told < met.cuts / 2)
+        fail(NULL, "hardly a way told as passed over");
     if (blocks && met.within < met.cuts / 7)
         fail(NULL, "hardly a stop within a block");
 }
 
 static void print_manner(void)
 {
+    printf("stops: %lu times a way was told as passed over, once in each log and at its end\n", met.told);
     if (blocks)
         printf("stops: replies in blocks, %lu of the stops within the lines of one\n", met.within);
     if (billed)
