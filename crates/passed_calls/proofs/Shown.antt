@@ -16,10 +16,10 @@ use Rattle.calls.proofs.InOrder.{passing, sheet-passes, state-holds, away-low}
 use Rattle.lent_text.specs.Room.{roomBits}
 use Rattle.lent_text.proofs.Room.{shown as text-shown}
 use Rattle.passed_ways.specs.Story.{Story}
-use Rattle.passed_ways.proofs.StoryLaws.{listing-length, story}
+use Rattle.passed_ways.proofs.StoryLaws.{story}
 use Rattle.passed_calls.specs.Passed.{listingIn, passedCall, passedLeaves}
 use Rattle.passed_calls.specs.Shown.{answer, shown, Tells}
-use Rattle.passed_calls.proofs.Exits.{few-before}
+use Rattle.passed_calls.proofs.Accepted.{listing-small}
 
 module _ (s bs d : List ℕ) (k : kindOf (answer s bs d) ≡ 6) where
   taken : inOrder s bs ≡ true
@@ -34,7 +34,7 @@ module _ (s bs d : List ℕ) (k : kindOf (answer s bs d) ≡ 6) where
 
   small : length (listingIn s bs) < 65536
   unfolding listingIn
-  small = let h = passing s (sheet-passes s bs taken) .shape in omega (arith, listing-length (networkIn s) (runOf bs), few-before (networkIn s) (runOf bs .way) (h .few) (omega (arith, core .way, h .few)))
+  small = omega (arith, listing-small (networkIn s) (runOf bs) (passing s (sheet-passes s bs taken) .shape .few) core)
 
   shown-is : shown s bs d ≡ listingIn s bs
   unfolding shown answer passedCall passedLeaves

@@ -1,7 +1,7 @@
 -- What planners' program has in hand after its calls, and what that says of the text that it prints.
 -- Assumes nothing.
 use Prim.Native.Nat.{ℕ, _/_, _≤_, _<_}
-use mathlib.Core.Path.{_≡_, refl, sym, ap, _∙_}
+use mathlib.Core.Path.{_≡_, ap, _∙_}
 use mathlib.Core.Logic.{_≢_, inl, inr}
 use mathlib.Core.Bool.{true, false, cond}
 use mathlib.Core.List.{List}
@@ -10,7 +10,7 @@ use lib.Dec.{eqb, leb}
 use lib.ListN.{length, take}
 use lib.Seq.{sets}
 use borrow.Author.Tests.{eq-eqb, eqb-true, eqb-false, le-leb, lt-leb}
-use Rattle.bounded.proofs.Bools.{which, _&_}
+use Rattle.bounded.proofs.Bools.{which}
 use Rattle.decimal.proofs.Stores.{sets-counted}
 use Rattle.network.specs.declared.Network.{Network}
 use Rattle.run.specs.State.{start}
@@ -19,11 +19,9 @@ use Rattle.run.specs.declared.Run.{Run}
 use Rattle.run.proofs.Facts.{Sound}
 use Rattle.guarantee.specs.Answers.{pack, kindOf, placeOf}
 use Rattle.guarantee.specs.Machine.{final}
-use Rattle.guarantee.proofs.Bytes.{same-run, fine as sound-bytes}
 use Rattle.guarantee.proofs.Start.{start-sound}
 use Rattle.guarantee.proofs.Whole.{travel}
-use Rattle.lent_text.proofs.Room.{room}
-use Rattle.calls.specs.Calls.{networkIn, sheetPasses, checkCall, inOrder}
+use Rattle.calls.specs.Calls.{networkIn, sheetPasses, checkCall}
 use Rattle.calls.proofs.FirstAnswer.{refused-low}
 use Rattle.calls.proofs.InOrder.{passing, accepted}
 use Rattle.journal_calls.specs.Journal.{callsOf}
@@ -33,9 +31,8 @@ use Rattle.charges.specs.Charges.{mostLines}
 use Rattle.drill_lines.specs.Printed.{printedText}
 use Rattle.drill_lines.proofs.PrintLaws.{printed-length}
 use Rattle.passed_ways.specs.Listing.{listing}
-use Rattle.passed_ways.proofs.StoryLaws.{listing-length}
-use Rattle.passed_calls.specs.Passed.{listingIn, passedCall, passedLeaves}
-use Rattle.passed_calls.proofs.Exits.{few-before}
+use Rattle.passed_calls.proofs.Accepted.{text-small, listed}
+use Rattle.passed_calls.specs.Passed.{passedCall, passedLeaves}
 use Rattle.stopped_campaign.proofs.Replays.{replayed}
 use Rattle.story_run.specs.Told.{longestListing, resumeBits, storyText}
 
@@ -112,15 +109,6 @@ module _ (s j : List ℕ) where
     unfolding storyText resumeBits replayBits kindOf pack
     story-is = rw (r .passes, r .short, r .right)
 
-    listing-small : length (listing g state) ≤ longestListing
-    listing-small =
-        let h = passing s (r .passes) .shape .few in
-        omega (arith, listing-length g state, few-before g (state .way) h (omega (arith, state-sound .core .way, h)))
-
-    ordered : inOrder s (bytesOf state) ≡ true
-    unfolding inOrder
-    ordered = r .passes & sound-bytes g (passing s (r .passes)) state state-sound
-
     left-is : (bs : List ℕ) → length bs ≡ 65 → cond (leb (length j / 6) mostLines) (restartLeaves s j bs) bs ≡ bytesOf state
     unfolding restartLeaves restarts
     left-is bs h = rw (r .short, r .passes, eq-eqb (length bs) 65 h, r .right)
@@ -130,7 +118,7 @@ module _ (s j : List ℕ) where
   unfolding storyText
   story-length = elim (which (eqb (kindOf (resumeBits s j)) 0)) [
     | inl z ↦ rw z (omega (arith, printed-length (resumeBits s j)))
-    | inr z ↦ rw z (listing-small (resumed-e (eqb-false _ 0 z)))
+    | inr z ↦ rw z (let r = resumed-e (eqb-false _ 0 z) in text-small s (r .passes) (state r) (state-sound r))
   ]
 
 -- ---- what is printed
@@ -148,13 +136,14 @@ module _ (s j d : List ℕ) (long : longestListing ≤ length d) (bits : ℕ) (e
   pub told : k ≢ 0 → (lent bs : List ℕ) → length lent ≡ 65 → bs ≡ cond (leb (length j / 6) mostLines) (restartLeaves s j lent) lent
       → (x : ℕ) → x ≡ passedCall s bs (length d) → (after : List ℕ) → after ≡ passedLeaves s bs d → (n : ℕ) → n ≡ placeOf x
       → (n ≡ length (storyText s j)) × (after ≡ sets d 0 (storyText s j))
-  unfolding passedCall passedLeaves listingIn placeOf pack
+  unfolding placeOf pack
   told z lent bs h w x q after a n p =
       let r = resumed-e s j (rw (← e, ← ek) z) in
       let b : bs ≡ bytesOf (state s j r) = w ∙ left-is s j r lent h in
-      let t = room (listing (networkIn s) (state s j r)) d _ refl (omega (arith, listing-small s j r)) _ refl _ refl in
-      let y : x ≡ pack 6 0 (length (listing (networkIn s) (state s j r))) = q ∙ rw (b, ordered s j r, same-run (state s j r)) (sym (t .0)) in
-      (rw (story-is s j r) (omega (arith, listing-small s j r)), rw (story-is s j r) (a ∙ rw (b, ordered s j r, same-run (state s j r)) (sym (t .1))))
+      let k = state-sound s j r in
+      let t = listed s (r .passes) (state s j r) k d long in
+      let y : x ≡ pack 6 0 (length (listing (networkIn s) (state s j r))) = q ∙ rw b (t .0) in
+      (rw (story-is s j r) (omega (arith, text-small s (r .passes) (state s j r) k)), rw (story-is s j r) (a ∙ rw b (t .1)))
 
 -- so much of the buffer is printed
 pub story-counts : (s j d b : List ℕ) (n : ℕ) → longestListing ≡ length d → n ≡ length (storyText s j) → b ≡ sets d 0 (storyText s j)

@@ -6,11 +6,9 @@ use mathlib.Core.Bool.{true, false}
 use mathlib.Core.List.{List, _∷_}
 use Prim.Native.Nat.{ℕ, zero, suc, _+_, _*_, _/_, _<_}
 use native.Mathlib.Omega.{arith}
-use lib.Dec.{eqb}
 use lib.ListN.{length, take, drop}
 use lib.Seq.{drop-drop}
-use borrow.Author.Tests.{eqb-true}
-use Rattle.bounded.proofs.Bools.{which, and-l, and-r}
+use Rattle.bounded.proofs.Bools.{which}
 use Rattle.network.specs.declared.Network.{Network}
 use Rattle.run.specs.Bytes.{bytesOf, runOf}
 use Rattle.run.specs.declared.Run.{Run}

@@ -5,9 +5,8 @@ use mathlib.Core.Bool.{true}
 use mathlib.Core.List.{List, [], _∷_, map}
 use Prim.Native.Nat.{ℕ}
 use lib.ListN.{length, drop}
-use borrow.Author.Tests.{eqb-true, eq-eqb}
-use Rattle.bounded.proofs.Bools.{_&_, and-l, and-r}
-use Rattle.plan.specs.Judging.{isFine}
+use borrow.Author.Tests.{eq-eqb}
+use Rattle.bounded.proofs.Bools.{_&_}
 use Rattle.lines.specs.Form.{waysPlace}
 use Rattle.lines.specs.Head.{limitIn}
 use Rattle.sheet.specs.Sheet.{sheetOf}
@@ -19,8 +18,6 @@ use Rattle.network.proofs.Letters.{firm-is, repeats-is}
 use Rattle.network.proofs.Desks.{desk-is}
 use Rattle.ways.specs.Ways.{countsListed}
 use Rattle.ways.specs.WayText.{sizeAt}
-use Rattle.verdict.specs.Check.{check, verdictNumber}
-use Rattle.verdict.proofs.Facts.{Passes}
 use Rattle.run.specs.State.{start}
 use Rattle.run.specs.Bytes.{bytesOf}
 use Rattle.run.specs.declared.Run.{Run}
@@ -119,6 +116,10 @@ module _ (s : List ℕ) (e : sheetPasses s ≡ true) where
   unfolding toldOn plain
   told-is cs = rw (bits-is cs) (told-answers (networkIn s) (passing s e) start begun cs)
 
+  -- the answers to the calls of a list, given singly, are the plain machine's
+  pub told-machine : (cs : List Call) → toldOn s (bytesOf start) cs ≡ machineAnswers (networkIn s) start (singlyOn s (bytesOf start) cs)
+  told-machine cs = told-is cs ∙ ap (machineAnswers (networkIn s) start) (sym (singly-is cs))
+
   -- the bytes after a list of calls are those of the plain machine's last state
   pub left-final : (cs : List Call) → leftOn s (bytesOf start) cs ≡ bytesOf (final (networkIn s) start (singlyOn s (bytesOf start) cs))
   unfolding plain
@@ -149,7 +150,7 @@ module _ (s : List ℕ) (e : sheetPasses s ≡ true) where
   from-start cs =
       let qs : List Asked = singlyOn s (bytesOf start) cs in
       let g = guaranteed qs in
-      let a : toldOn s (bytesOf start) cs ≡ answersTo (networkIn s) qs = told-is cs ∙ ap (machineAnswers (networkIn s) start) (sym (singly-is cs)) ∙ sym (g .bits) in
+      let a : toldOn s (bytesOf start) cs ≡ answersTo (networkIn s) qs = told-machine cs ∙ sym (g .bits) in
       let x : askedCall s (leftOn s (bytesOf start) cs) nextOrder ≡ orderAfter (networkIn s) qs =
       asked-is (leftOn s (bytesOf start) cs) nextOrder ∙ ap (λ (bs : List ℕ). callBits (networkIn s) bs nextOrder) (left-final cs ∙ sym (calls-left (networkIn s) (passing s e) start begun qs)) in
       record {

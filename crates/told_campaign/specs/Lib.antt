@@ -1,0 +1,2 @@
+-- The definitions of crate `told_campaign`.
+pub mod Told
