@@ -31,10 +31,11 @@ use Rattle.charges.specs.Charges.{mostLines}
 use Rattle.drill_lines.specs.Printed.{printedText}
 use Rattle.drill_lines.proofs.PrintLaws.{printed-length}
 use Rattle.passed_ways.specs.Listing.{listing}
+use Rattle.passed_ways.proofs.StoryLaws.{story}
 use Rattle.passed_calls.proofs.Accepted.{text-small, listed}
 use Rattle.passed_calls.specs.Passed.{passedCall, passedLeaves}
 use Rattle.stopped_campaign.proofs.Replays.{replayed}
-use Rattle.story_run.specs.Told.{longestListing, resumeBits, storyText}
+use Rattle.story_run.specs.Told.{longestListing, resumeBits, storyText, Retold}
 
 -- ---- the restart
 
@@ -97,13 +98,14 @@ module _ (s j : List ℕ) where
     state = replay g j .run
 
     -- its state is that after the calls of its lines, and so sound
-    state-sound : Sound g state
+    state-is : state ≡ final g start (callsOf j)
     unfolding replay callsOf
-    state-sound =
-        let ok = passing s (r .passes) in
-        let e = replayed g (ok .shape .bookings) (ok .shape .few) start 1 (length j / 6) j (omega arith) (r .right) .state in
-        let f : state ≡ final g start (callsOf j) = ap (λ (x : Replayed). x .run) e in
-        rw f (travel g ok start (start-sound g ok) (callsOf j) .sound)
+    state-is =
+        let h = passing s (r .passes) .shape in
+        ap (λ (x : Replayed). x .run) (replayed g (h .bookings) (h .few) start 1 (length j / 6) j (omega arith) (r .right) .state)
+
+    state-sound : Sound g state
+    state-sound = let ok = passing s (r .passes) in rw state-is (travel g ok start (start-sound g ok) (callsOf j) .sound)
 
     story-is : storyText s j ≡ listing g state
     unfolding storyText resumeBits replayBits kindOf pack
@@ -112,6 +114,12 @@ module _ (s j : List ℕ) where
     left-is : (bs : List ℕ) → length bs ≡ 65 → cond (leb (length j / 6) mostLines) (restartLeaves s j bs) bs ≡ bytesOf state
     unfolding restartLeaves restarts
     left-is bs h = rw (r .short, r .passes, eq-eqb (length bs) 65 h, r .right)
+
+  pub retold : kindOf (resumeBits s j) ≢ 0 → Retold s j
+  retold h =
+      let r = resumed-e h in
+      let p = passing s (r .passes) .shape in
+      record { state = state-is r; story = rw (story-is r) (story (networkIn s) (p .bookings) (p .few) (state r) (state-sound r .core)) }
 
   -- what is printed is no longer than the longest listing
   pub story-length : length (storyText s j) ≤ longestListing

@@ -2,16 +2,21 @@
 -- prints it.
 -- Assumes nothing.
 use Prim.Native.Nat.{ℕ, _*_, _/_}
+use mathlib.Core.Path.{_≡_}
 use mathlib.Core.Bool.{cond}
 use mathlib.Core.List.{List}
 use lib.Dec.{eqb, leb}
 use lib.ListN.{length}
+use Rattle.run.specs.State.{start}
 use Rattle.guarantee.specs.Answers.{pack, kindOf}
+use Rattle.guarantee.specs.Machine.{final}
 use Rattle.calls.specs.Calls.{networkIn, sheetPasses, checkCall}
+use Rattle.journal_calls.specs.Journal.{callsOf}
 use Rattle.journal_calls.specs.Restart.{replay, replayBits}
 use Rattle.charges.specs.Charges.{mostLines}
 use Rattle.drill_lines.specs.Printed.{printedText}
 use Rattle.passed_ways.specs.Listing.{lineBytes, listing}
+use Rattle.passed_ways.specs.Story.{Story}
 
 -- no listing is longer than that of 16 ways
 abbrev pub longestListing : ℕ
@@ -25,3 +30,8 @@ resumeBits s journal =
 unfoldable pub storyText : List ℕ → List ℕ → List ℕ
 storyText s journal =
     cond (eqb (kindOf (resumeBits s journal)) 0) (printedText (resumeBits s journal)) (listing (networkIn s) (replay (networkIn s) journal .run))
+
+-- A JOURNAL THAT IS TAKEN TO ITS END: what is printed tells the story of the state after the calls of its lines
+pub record Retold (s journal : List ℕ) : Type 0 where
+  pub state : replay (networkIn s) journal .run ≡ final (networkIn s) start (callsOf journal)
+  pub story : Story (networkIn s) (replay (networkIn s) journal .run) (storyText s journal)
