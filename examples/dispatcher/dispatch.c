@@ -415,8 +415,8 @@ static bool block_agrees(struct run *run, const struct arrived *taken, size_t co
         || blame(run, "state and books differ after a block", answer);
 }
 
-/* The state is that after all of them. Where one changes the way no request is open, and what follows are replies to
-   returns: they change nothing of the story. */
+/* The state is that after all of them. The one that changes the way is the last: no request is open then, and requests and
+   returns are never open together. */
 static bool enter_block(struct run *run, const struct arrived *taken, size_t count_taken)
 {
     for (size_t i = 0; i < count_taken; i++) {
