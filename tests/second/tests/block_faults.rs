@@ -1,13 +1,14 @@
 //! Wrong versions of a block of replies: the comparison must find each.
 
+use second::as_second;
 use second::block;
 use second::calls::{self, pack, Judged};
 use second::check::Network;
+use second::comparison::as_second::Last;
 use second::comparison::{Campaign, Comparison};
 use second::journal::{self, LINE_LENGTH};
 use second::plan;
 use second::run::{self, Order, State};
-use std::cell::RefCell;
 use std::hint::black_box;
 
 /// The second version itself, but for one fault.
@@ -71,20 +72,16 @@ use Fault::*;
 /// A fault, and the last sheet with what it comes to.
 struct Faulty {
     fault: Fault,
-    judged: RefCell<(Vec<u8>, Judged)>,
+    last: Last,
 }
 
 impl Faulty {
     fn new(fault: Fault) -> Faulty {
-        Faulty { fault, judged: RefCell::new((Vec::new(), calls::judge(b""))) }
+        Faulty { fault, last: Last::default() }
     }
 
     fn judged<T>(&self, sheet: &[u8], with: impl FnOnce(&Judged) -> T) -> T {
-        let mut last = self.judged.borrow_mut();
-        if last.0 != sheet {
-            *last = (sheet.to_vec(), calls::judge(sheet));
-        }
-        with(&last.1)
+        self.last.judged(sheet, calls::judge, with)
     }
 }
 
@@ -301,21 +298,7 @@ fn faulty_block(fault: Fault, judged: &Judged, sheet: &[u8], block: &[u8], bytes
 }
 
 impl Campaign for Faulty {
-    fn check(&self, sheet: &[u8]) -> u32 {
-        self.judged(sheet, calls::check_judged)
-    }
-
-    fn start(&self, sheet: &[u8], state: &mut [u8]) -> u32 {
-        self.judged(sheet, |judged| calls::start_judged(judged, state))
-    }
-
-    fn next_order(&self, sheet: &[u8], state: &mut [u8]) -> u32 {
-        self.judged(sheet, |judged| calls::next_order_judged(judged, state))
-    }
-
-    fn reply(&self, sheet: &[u8], state: &mut [u8], letter: u8, booking: u32) -> u32 {
-        self.judged(sheet, |judged| calls::reply_judged(judged, state, letter, booking))
-    }
+    as_second!(check, start, next_order, reply, restart, journal_line, settle, passed_ways);
 
     fn reply_block(&self, sheet: &[u8], block: Option<&[u8]>, state: &mut [u8]) -> u32 {
         if self.fault == NullIsRefused && block.is_none() {
@@ -323,30 +306,6 @@ impl Campaign for Faulty {
         }
         let block = block.unwrap_or(b"");
         self.judged(sheet, |judged| faulty_block(self.fault, judged, sheet, block, state))
-    }
-
-    fn restart(&self, sheet: &[u8], journal: &[u8], state: &mut [u8]) -> u32 {
-        self.judged(sheet, |judged| calls::restart_judged(judged, journal, state))
-    }
-
-    fn journal_line(&self, letter: u8, booking: u32, line: &mut [u8]) -> u32 {
-        calls::journal_line(letter, booking, line)
-    }
-
-    fn settle(
-        &self,
-        sheet: &[u8],
-        fees: Option<&[u8]>,
-        journal: Option<&[u8]>,
-        report: Option<&mut [u8]>,
-    ) -> u32 {
-        let (fees, journal) = (fees.unwrap_or(b""), journal.unwrap_or(b""));
-        self.judged(sheet, |judged| calls::settle_judged(judged, fees, journal, report.unwrap_or(&mut [])))
-    }
-
-    fn passed_ways(&self, sheet: &[u8], state: Option<&[u8]>, listing: Option<&mut [u8]>) -> u32 {
-        let (state, listing) = (state.unwrap_or(b""), listing.unwrap_or(&mut []));
-        self.judged(sheet, |judged| calls::passed_ways_judged(judged, state, listing))
     }
 }
 

@@ -1,13 +1,14 @@
 //! Wrong versions of desks and of the limit of their matters: the comparison must find each.
 
+use second::as_second;
 use second::block::{self, Bad};
 use second::calls::{self, pack, Judged};
 use second::check::Network;
+use second::comparison::as_second::Last;
 use second::comparison::{Campaign, Comparison, Outcome};
 use second::journal::{self, LINE_LENGTH};
 use second::plan::{self, number_in_columns, Refusal};
 use second::run::{self, Order, State, HELD, REQUESTED, RETURNING};
-use std::cell::RefCell;
 
 /// The second version itself, but for one fault.
 #[derive(Clone, Copy, Debug, PartialEq)]
@@ -313,20 +314,16 @@ fn order_answer(order: Order) -> u32 {
 /// A fault, and the last sheet with what it comes to.
 struct Faulty {
     fault: Fault,
-    judged: RefCell<(Vec<u8>, Judged)>,
+    last: Last,
 }
 
 impl Faulty {
     fn new(fault: Fault) -> Faulty {
-        Faulty { fault, judged: RefCell::new((Vec::new(), judge(fault, b""))) }
+        Faulty { fault, last: Last::default() }
     }
 
     fn judged<T>(&self, sheet: &[u8], with: impl FnOnce(&Judged) -> T) -> T {
-        let mut last = self.judged.borrow_mut();
-        if last.0 != sheet {
-            *last = (sheet.to_vec(), judge(self.fault, sheet));
-        }
-        with(&last.1)
+        self.last.judged(sheet, |sheet| judge(self.fault, sheet), with)
     }
 
     /// A step from a state that is sound for this call.
@@ -350,13 +347,7 @@ impl Faulty {
 }
 
 impl Campaign for Faulty {
-    fn check(&self, sheet: &[u8]) -> u32 {
-        self.judged(sheet, calls::check_judged)
-    }
-
-    fn start(&self, sheet: &[u8], state: &mut [u8]) -> u32 {
-        self.judged(sheet, |judged| calls::start_judged(judged, state))
-    }
+    as_second!(check, start, journal_line, settle, passed_ways);
 
     fn next_order(&self, sheet: &[u8], state: &mut [u8]) -> u32 {
         self.step(sheet, state, OrderTakesAbove, |network, state| {
@@ -402,26 +393,6 @@ impl Campaign for Faulty {
                 Err(line) => pack(0, 12, line),
             }
         })
-    }
-
-    fn journal_line(&self, letter: u8, booking: u32, line: &mut [u8]) -> u32 {
-        calls::journal_line(letter, booking, line)
-    }
-
-    fn settle(
-        &self,
-        sheet: &[u8],
-        fees: Option<&[u8]>,
-        journal: Option<&[u8]>,
-        report: Option<&mut [u8]>,
-    ) -> u32 {
-        let (fees, journal) = (fees.unwrap_or(b""), journal.unwrap_or(b""));
-        self.judged(sheet, |judged| calls::settle_judged(judged, fees, journal, report.unwrap_or(&mut [])))
-    }
-
-    fn passed_ways(&self, sheet: &[u8], state: Option<&[u8]>, listing: Option<&mut [u8]>) -> u32 {
-        let (state, listing) = (state.unwrap_or(b""), listing.unwrap_or(&mut []));
-        self.judged(sheet, |judged| calls::passed_ways_judged(judged, state, listing))
     }
 }
 

@@ -1,6 +1,7 @@
 //! Wrong versions of the calls but for the block: the comparison must find each.
 
-use second::calls::{self, kind_of, pack, place_of, refusal_of};
+use second::as_second;
+use second::calls::{self, kind_of, pack, place_of, refusal_of, Judged};
 use second::check::{self, Network};
 use second::comparison::{Campaign, Comparison, Outcome};
 use second::generate;
@@ -332,7 +333,15 @@ impl Faulty {
     }
 }
 
+impl Faulty {
+    fn judged<T>(&self, sheet: &[u8], with: impl FnOnce(&Judged) -> T) -> T {
+        with(&calls::judge(sheet))
+    }
+}
+
 impl Campaign for Faulty {
+    as_second!(reply_block, settle, passed_ways);
+
     fn check(&self, sheet: &[u8]) -> u32 {
         let answer = calls::check(sheet);
         match self.0 {
@@ -424,10 +433,6 @@ impl Campaign for Faulty {
         answer
     }
 
-    fn reply_block(&self, sheet: &[u8], block: Option<&[u8]>, state: &mut [u8]) -> u32 {
-        calls::reply_block(sheet, block.unwrap_or(b""), state)
-    }
-
     fn restart(&self, sheet: &[u8], journal: &[u8], state: &mut [u8]) -> u32 {
         let Ok(network) = calls::judge(sheet) else { return calls::check(sheet) };
         let journal = journal_as_taken(self.0, journal);
@@ -481,20 +486,6 @@ impl Campaign for Faulty {
             line[LINE_LENGTH] = 0;
         }
         pack(6, 0, 6)
-    }
-
-    fn settle(
-        &self,
-        sheet: &[u8],
-        fees: Option<&[u8]>,
-        journal: Option<&[u8]>,
-        report: Option<&mut [u8]>,
-    ) -> u32 {
-        calls::settle(sheet, fees.unwrap_or(b""), journal.unwrap_or(b""), report.unwrap_or(&mut []))
-    }
-
-    fn passed_ways(&self, sheet: &[u8], state: Option<&[u8]>, listing: Option<&mut [u8]>) -> u32 {
-        calls::passed_ways(sheet, state.unwrap_or(b""), listing.unwrap_or(&mut []))
     }
 }
 

@@ -1,7 +1,8 @@
 //! Wrong versions of reply for which it matters which reply comes first: the comparison must find
 //! each by that alone, without the second version.
 
-use second::calls::{self, pack, ACCEPTED, REFUSED};
+use second::as_second;
+use second::calls::{self, pack, Judged, ACCEPTED, REFUSED};
 use second::check::Network;
 use second::comparison::any_order::ORDER_MATTERS;
 use second::comparison::{Campaign, Comparison, Second};
@@ -45,7 +46,15 @@ fn replied(fault: Fault, network: &Network, before: State, letter: u8, booking: 
     Some(state)
 }
 
+impl Faulty {
+    fn judged<T>(&self, sheet: &[u8], with: impl FnOnce(&Judged) -> T) -> T {
+        with(&calls::judge(sheet))
+    }
+}
+
 impl Campaign for Faulty {
+    as_second!(check, start, next_order, reply_block, restart, journal_line, settle, passed_ways);
+
     fn reply(&self, sheet: &[u8], state: &mut [u8], letter: u8, booking: u32) -> u32 {
         let right = calls::reply(sheet, &mut state.to_vec(), letter, booking);
         if calls::kind_of(right) != ACCEPTED {
@@ -58,44 +67,6 @@ impl Campaign for Faulty {
             None => return pack(REFUSED, 9, booking),
         }
         right
-    }
-
-    fn check(&self, sheet: &[u8]) -> u32 {
-        Second.check(sheet)
-    }
-
-    fn start(&self, sheet: &[u8], state: &mut [u8]) -> u32 {
-        Second.start(sheet, state)
-    }
-
-    fn next_order(&self, sheet: &[u8], state: &mut [u8]) -> u32 {
-        Second.next_order(sheet, state)
-    }
-
-    fn reply_block(&self, sheet: &[u8], block: Option<&[u8]>, state: &mut [u8]) -> u32 {
-        Second.reply_block(sheet, block, state)
-    }
-
-    fn restart(&self, sheet: &[u8], journal: &[u8], state: &mut [u8]) -> u32 {
-        Second.restart(sheet, journal, state)
-    }
-
-    fn journal_line(&self, letter: u8, booking: u32, line: &mut [u8]) -> u32 {
-        Second.journal_line(letter, booking, line)
-    }
-
-    fn settle(
-        &self,
-        sheet: &[u8],
-        fees: Option<&[u8]>,
-        journal: Option<&[u8]>,
-        report: Option<&mut [u8]>,
-    ) -> u32 {
-        Second.settle(sheet, fees, journal, report)
-    }
-
-    fn passed_ways(&self, sheet: &[u8], state: Option<&[u8]>, listing: Option<&mut [u8]>) -> u32 {
-        Second.passed_ways(sheet, state, listing)
     }
 }
 

@@ -1,13 +1,14 @@
 //! Wrong versions of the listing of the ways passed over: the comparison must find each by its
 //! listings alone.
 
+use second::as_second;
 use second::calls::{self, pack, Judged};
 use second::check::Network;
+use second::comparison::as_second::Last;
 use second::comparison::passed::NOT_TRUE;
 use second::comparison::{Campaign, Comparison};
 use second::plan::{self, Kind};
 use second::run::{self, Order, State, HELD, LOST, REQUESTED, RETURNING};
-use std::cell::RefCell;
 use std::hint::black_box;
 
 /// The wrong versions, by what is wrong: each is named once, and demanded by the test of its group.
@@ -144,21 +145,16 @@ use Fault::*;
 
 struct Faulty {
     fault: Fault,
-    // The sheet of the last call, judged, for most calls come with the same sheet.
-    last: RefCell<(Vec<u8>, Judged)>,
+    last: Last,
 }
 
 impl Faulty {
     fn new(fault: Fault) -> Faulty {
-        Faulty { fault, last: RefCell::new((Vec::new(), calls::judge(b""))) }
+        Faulty { fault, last: Last::default() }
     }
 
     fn judged<T>(&self, sheet: &[u8], with: impl FnOnce(&Judged) -> T) -> T {
-        let mut last = self.last.borrow_mut();
-        if last.0 != sheet {
-            *last = (sheet.to_vec(), calls::judge(sheet));
-        }
-        with(&last.1)
+        self.last.judged(sheet, calls::judge, with)
     }
 }
 
@@ -454,51 +450,14 @@ fn faulty_listing(fault: Fault, judged: &Judged, sheet: &[u8], bytes: &[u8], lis
 }
 
 impl Campaign for Faulty {
+    as_second!(check, start, next_order, reply, reply_block, restart, journal_line, settle);
+
     fn passed_ways(&self, sheet: &[u8], state: Option<&[u8]>, listing: Option<&mut [u8]>) -> u32 {
         if self.fault == NullIsRefused && listing.is_none() {
             return pack(0, 10, 0);
         }
         let (state, listing) = (state.unwrap_or(b""), listing.unwrap_or(&mut []));
         self.judged(sheet, |judged| faulty_listing(self.fault, judged, sheet, state, listing))
-    }
-
-    fn check(&self, sheet: &[u8]) -> u32 {
-        self.judged(sheet, calls::check_judged)
-    }
-
-    fn start(&self, sheet: &[u8], state: &mut [u8]) -> u32 {
-        self.judged(sheet, |judged| calls::start_judged(judged, state))
-    }
-
-    fn next_order(&self, sheet: &[u8], state: &mut [u8]) -> u32 {
-        self.judged(sheet, |judged| calls::next_order_judged(judged, state))
-    }
-
-    fn reply(&self, sheet: &[u8], state: &mut [u8], letter: u8, booking: u32) -> u32 {
-        self.judged(sheet, |judged| calls::reply_judged(judged, state, letter, booking))
-    }
-
-    fn reply_block(&self, sheet: &[u8], block: Option<&[u8]>, state: &mut [u8]) -> u32 {
-        self.judged(sheet, |judged| calls::reply_block_judged(judged, block.unwrap_or(b""), state))
-    }
-
-    fn restart(&self, sheet: &[u8], journal: &[u8], state: &mut [u8]) -> u32 {
-        self.judged(sheet, |judged| calls::restart_judged(judged, journal, state))
-    }
-
-    fn journal_line(&self, letter: u8, booking: u32, line: &mut [u8]) -> u32 {
-        calls::journal_line(letter, booking, line)
-    }
-
-    fn settle(
-        &self,
-        sheet: &[u8],
-        fees: Option<&[u8]>,
-        journal: Option<&[u8]>,
-        report: Option<&mut [u8]>,
-    ) -> u32 {
-        let (fees, journal) = (fees.unwrap_or(b""), journal.unwrap_or(b""));
-        self.judged(sheet, |judged| calls::settle_judged(judged, fees, journal, report.unwrap_or(&mut [])))
     }
 }
 

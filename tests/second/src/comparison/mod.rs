@@ -2,6 +2,7 @@
 //! same 32 bits, the same bytes of state, and no other byte changed.
 
 pub mod any_order;
+pub mod as_second;
 pub mod blocks;
 mod choices;
 mod damage;
@@ -21,6 +22,7 @@ pub mod sheets;
 mod tally;
 pub mod walks;
 
+use crate::as_second;
 use crate::calls::{self, Judged};
 use crate::check::Network;
 use crate::dice::Dice;
@@ -55,48 +57,14 @@ pub trait Campaign {
 /// The second version in the place of the first: it must not differ from itself.
 pub struct Second;
 
+impl Second {
+    fn judged<T>(&self, sheet: &[u8], with: impl FnOnce(&Judged) -> T) -> T {
+        with(&calls::judge(sheet))
+    }
+}
+
 impl Campaign for Second {
-    fn check(&self, sheet: &[u8]) -> u32 {
-        calls::check(sheet)
-    }
-
-    fn start(&self, sheet: &[u8], state: &mut [u8]) -> u32 {
-        calls::start(sheet, state)
-    }
-
-    fn next_order(&self, sheet: &[u8], state: &mut [u8]) -> u32 {
-        calls::next_order(sheet, state)
-    }
-
-    fn reply(&self, sheet: &[u8], state: &mut [u8], letter: u8, booking: u32) -> u32 {
-        calls::reply(sheet, state, letter, booking)
-    }
-
-    fn reply_block(&self, sheet: &[u8], block: Option<&[u8]>, state: &mut [u8]) -> u32 {
-        calls::reply_block(sheet, block.unwrap_or(b""), state)
-    }
-
-    fn restart(&self, sheet: &[u8], journal: &[u8], state: &mut [u8]) -> u32 {
-        calls::restart(sheet, journal, state)
-    }
-
-    fn journal_line(&self, letter: u8, booking: u32, line: &mut [u8]) -> u32 {
-        calls::journal_line(letter, booking, line)
-    }
-
-    fn settle(
-        &self,
-        sheet: &[u8],
-        fees: Option<&[u8]>,
-        journal: Option<&[u8]>,
-        report: Option<&mut [u8]>,
-    ) -> u32 {
-        calls::settle(sheet, fees.unwrap_or(b""), journal.unwrap_or(b""), report.unwrap_or(&mut []))
-    }
-
-    fn passed_ways(&self, sheet: &[u8], state: Option<&[u8]>, listing: Option<&mut [u8]>) -> u32 {
-        calls::passed_ways(sheet, state.unwrap_or(b""), listing.unwrap_or(&mut []))
-    }
+    as_second!(check, start, next_order, reply, reply_block, restart, journal_line, settle, passed_ways);
 }
 
 /// Nothing to say, or what differs.
