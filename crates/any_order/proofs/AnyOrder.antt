@@ -1,256 +1,162 @@
--- Desks in any order: the theorem, for all bytes of a sheet and of a state.
+-- Desks in any order: the theorem, for all bytes of a sheet and of a state. A next order that takes no order changes nothing, so a list of calls
+-- leaves what its replies alone leave.
 -- Assumes nothing.
-use mathlib.Core.Path.{_≡_, refl, sym, ap, ap₂, subst, _∙_}
-use mathlib.Core.Logic.{inl, inr}
+use mathlib.Core.Path.{_≡_, refl, sym, ap, subst, _∙_}
+use mathlib.Core.Logic.{_≢_, inl, inr}
 use mathlib.Core.Bool.{true, false}
-use mathlib.Core.List.{List, [], _∷_, map}
-use Prim.Native.Nat.{ℕ, _+_, _/_, _≤_}
+use mathlib.Core.List.{List, [], _∷_}
+use Prim.Native.Nat.{ℕ, suc, _≤_}
 use native.Mathlib.Omega.{arith}
-use lib.Dec.{eqb}
-use lib.ListN.{length}
-use borrow.Author.Tests.{eqb-true, ne-eqb}
-use Rattle.bounded.proofs.Bools.{which, clash}
+use lib.ListN.{getD}
+use borrow.Author.Tests.{ne-eqb}
+use Rattle.bounded.specs.Bounded.{one}
+use Rattle.bounded.proofs.Bools.{which, clash, off}
 use Rattle.network.specs.declared.Network.{Network}
-use Rattle.verdict.proofs.Facts.{Passes}
 use Rattle.run.specs.Bytes.{bytesOf, runOf}
 use Rattle.run.specs.declared.Run.{Run}
+use Rattle.run.specs.declared.Ordered.{Ordered}
 use Rattle.run.proofs.Facts.{Sound}
-use Rattle.event_lines.specs.Line.{lineOf}
-use Rattle.event_lines.specs.declared.Line.{Line}
-use Rattle.guarantee.specs.Answers.{pack, unsound, kindOf}
-use Rattle.guarantee.specs.Machine.{Asked, nextOrder, replied, answer, after, final}
-use Rattle.guarantee.specs.Counted.{accepts}
-use Rattle.guarantee.specs.AnyOrder.{Rearranged, every, noOrder, different, isReply}
+use Rattle.guarantee.specs.Answers.{orderBits}
+use Rattle.guarantee.specs.Machine.{Asked, nextOrder, replied, answer, after}
+use Rattle.guarantee.specs.Counted.{sends, tally}
+use Rattle.guarantee.specs.AnyOrder.{Rearranged, every, isReply, noOrder, notTo, different}
 use Rattle.guarantee.proofs.Moved.{kind-pack}
-use Rattle.guarantee.proofs.Rearranged.{every-rearranged, different-rearranged, length-rearranged, map-rearranged}
-use Rattle.guarantee.proofs.AnyOrder.{answered-alike, two-replies, each-alone, same-final}
-use Rattle.calls.specs.Calls.{networkIn, sheetPasses, checkCall, askedCall, askedLeaves, inOrder, refusedWith}
+use Rattle.guarantee.proofs.Rearranged.{different-rearranged}
+use Rattle.lent_state.proofs.Due.{Sent, requests, gives-back, nothing, sent}
+use Rattle.calls.specs.Calls.{networkIn, sheetPasses, askedCall, askedLeaves, inOrder}
 use Rattle.calls.proofs.Exits.{refused-asked}
-use Rattle.calls.proofs.FirstAnswer.{refused-low}
-use Rattle.block_calls.specs.Block.{linesOf, Block, blockOf, bitsOf, blockBits, blockCall, blockLeaves}
-use Rattle.block_calls.proofs.Few.{kept-few, fault-few}
-use Rattle.whole_campaign.specs.Calls.{single, block as call, singles, gives, leaves, givesBy, leavesBy}
-use Rattle.whole_campaign.specs.Lists.{answersOn, leftOn}
-use Rattle.whole_campaign.proofs.Parts.{singles-final, singles-answers, sound-after}
 use Rattle.calls.proofs.InOrder.{passing, sheet-passes, state-holds}
+use Rattle.whole_campaign.specs.Calls.{Call, single, singles, gives, leaves, givesBy, leavesBy}
+use Rattle.whole_campaign.specs.Lists.{answersOn, leftOn}
+use Rattle.whole_campaign.specs.Singly.{singlyOn, toldOn}
+use Rattle.whole_campaign.proofs.Parts.{flat, flat-final, singles-final, singles-answers, told-calls, told-answers}
 use Rattle.whole_campaign.proofs.Whole.{gives-is, leaves-is, answers-is, left-is}
 use Rattle.whole_campaign.proofs.Given.{bytes}
-use Rattle.any_order.specs.Lines.{rowsOf, joined, replyOn, repliesOn, isGiven, wellFormed, allFit, allDiffer}
-use Rattle.any_order.specs.AnyOrder.{AnyOrder, ordersOn, stateOn, Delayed, SamePlan}
-use Rattle.any_order.proofs.Blocks.{lines-rows, rows-stay, only-replies, block-whole, whole-told}
+use Rattle.any_order.specs.AnyOrder.{repliesIn, repliesTold, takes, ordersTaken, EitherWay, InAnyOrder, MixedInAnyOrder, AnyOrder, ordersOn, stateOn, Delayed, SamePlan}
+use Rattle.any_order.proofs.Replies.{replies}
 
--- a rearranged block is read as the lines rearranged
-rows-lines : (block other : List ℕ) → Rearranged (rowsOf block) (rowsOf other) → Rearranged (linesOf block) (linesOf other)
-unfolding rowsOf linesOf
-rows-lines block other p =
-    rw (lines-rows ((length block + 5) / 6) block, lines-rows ((length other + 5) / 6) other) (map-rearranged lineOf (rowsOf block) (rowsOf other) p)
+-- ---- a next order that takes no order changes nothing
 
-map-ext : (f h : Asked → ℕ) → ((q : Asked) → f q ≡ h q) → (qs : List Asked) → map f qs ≡ map h qs
-map-ext f h e [] = refl
-map-ext f h e (q ∷ qs) = ap₂ _∷_ (e q) (map-ext f h e qs)
+sent-some : (g : Network) (r : Run) → g .n ≤ 64 → {t : Ordered} → Sent g r t → sends (orderBits (t .order)) ≡ false → t .run ≡ r
+unfolding sends orderBits
+sent-some g r few (requests x h) e = clash true refl (rw (kind-pack 1 0 (suc x) (omega arith) (omega arith)) at e)
+sent-some g r few (gives-back x h) e = clash true refl (rw (kind-pack 2 0 (suc x) (omega arith) (omega arith)) at e)
+sent-some g r few (nothing o q) e = refl
 
--- an accepted block has no fault
-no-fault : (t : Block) → t .kept ≤ 64 → t .fault ≤ 9 → accepts (blockBits t) ≡ true → t .fault ≡ 0
-unfolding accepts blockBits bitsOf
-no-fault t h f a = elim (which (eqb (t .fault) 0)) [
-  | inl z ↦ eqb-true (t .fault) 0 z
-  | inr z ↦ clash (accepts (bitsOf (t .kept) (t .fault))) a (rw (z, kind-pack 0 (t .fault) (t .kept + 1) (omega arith) (omega arith)))
-]
+module _ (s : List ℕ) where
+  none-sound : (e : sheetPasses s ≡ true) (r : Run) → Sound (networkIn s) r → sends (askedCall s (bytesOf r) nextOrder) ≡ false → askedLeaves s (bytesOf r) nextOrder ≡ bytesOf r
+  unfolding gives givesBy leaves leavesBy answer after
+  none-sound e r k n =
+      leaves-is s e r k (single nextOrder)
+      ∙ ap bytesOf (sent-some (networkIn s) r (passing s e .shape .bookings) (sent (networkIn s) r) (ap sends (sym (gives-is s e r k (single nextOrder))) ∙ n))
 
--- ---- from a sound state, on a sheet that passes
+  none-taken : (bs : List ℕ) → sends (askedCall s bs nextOrder) ≡ false → askedLeaves s bs nextOrder ≡ bs
+  none-taken bs = elim (which (inOrder s bs)) [
+    | inl o ↦ subst (λ (t : List ℕ). sends (askedCall s t nextOrder) ≡ false → askedLeaves s t nextOrder ≡ t) (bytes s bs o) (none-sound (sheet-passes s bs o) (runOf bs) (state-holds s bs o))
+    | inr o ↦ (λ n. sym (refused-asked s bs o nextOrder .1))
+  ]
 
-module _ (s : List ℕ) (e : sheetPasses s ≡ true) (r : Run) (k : Sound (networkIn s) r) where
-  abbrev g : Network
-  g = networkIn s
+  -- so a list of calls leaves what its replies leave, and they are answered as they are without the next orders
+  replies-alone : (bs : List ℕ) (qs : List Asked) → ordersTaken s bs qs ≡ 0
+      → (repliesTold qs (answersOn s bs (singles qs)) ≡ answersOn s bs (singles (repliesIn qs))) × (leftOn s bs (singles qs) ≡ leftOn s bs (singles (repliesIn qs)))
+  unfolding ordersTaken takes tally answersOn leftOn gives leaves repliesIn repliesTold
+  replies-alone bs [] z = (refl, refl)
+  replies-alone bs (nextOrder ∷ qs) z =
+      let n : sends (askedCall s bs nextOrder) ≡ false = off (sends (askedCall s bs nextOrder)) (λ e. omega (arith, ap one e)) in
+      let u = none-taken bs n in
+      let y : tally takes qs (answersOn s (askedLeaves s bs nextOrder) (singles qs)) ≡ 0 = omega arith in
+      let t = replies-alone bs qs (ap (λ (bs : List ℕ). tally takes qs (answersOn s bs (singles qs))) (sym u) ∙ y) in
+      (ap (λ (bs : List ℕ). repliesTold qs (answersOn s bs (singles qs))) u ∙ t .0, ap (λ (bs : List ℕ). leftOn s bs (singles qs)) u ∙ t .1)
+  replies-alone bs (replied l b ∷ qs) z =
+      let t = replies-alone (askedLeaves s bs (replied l b)) qs (omega arith) in
+      (ap (λ (xs : List ℕ). askedCall s bs (replied l b) ∷ xs) (t .0), t .1)
 
-  abbrev ok : Passes g
-  ok = passing s e
+only-replies : (qs : List Asked) → noOrder (repliesIn qs) ≡ true
+unfolding noOrder every isReply repliesIn
+only-replies [] = refl
+only-replies (nextOrder ∷ qs) = only-replies qs
+only-replies (replied l b ∷ qs) = only-replies qs
 
-  asked : (q : Asked) → askedCall s (bytesOf r) q ≡ answer g r q
-  unfolding gives givesBy
-  asked q = gives-is s e r k (single q)
+-- ---- the claim's parts
 
-  left : (q : Asked) → askedLeaves s (bytesOf r) q ≡ bytesOf (after g r q)
-  unfolding leaves leavesBy
-  left q = leaves-is s e r k (single q)
+module _ (s bs : List ℕ) where
+  late-differ : (qs ps : List Asked) → different (repliesIn qs) ≡ true → Rearranged (repliesIn qs) (repliesIn ps) → different (repliesIn ps) ≡ true
+  late-differ qs ps d p = different-rearranged (repliesIn qs) (repliesIn ps) p (only-replies qs) d
 
-  -- one after another
-  sound : (q : Asked) → Sound g (after g r q)
-  unfolding leavesBy
-  sound q = sound-after g ok r k (single q)
-
-  asked-after : (p q : Asked) → askedCall s (askedLeaves s (bytesOf r) p) q ≡ answer g (after g r p) q
-  unfolding gives givesBy
-  asked-after p q = ap (λ (t : List ℕ). askedCall s t q) (left p) ∙ gives-is s e (after g r p) (sound p) (single q)
-
-  left-after : (p q : Asked) → askedLeaves s (askedLeaves s (bytesOf r) p) q ≡ bytesOf (after g (after g r p) q)
-  unfolding leaves leavesBy
-  left-after p q = ap (λ (t : List ℕ). askedLeaves s t q) (left p) ∙ leaves-is s e (after g r p) (sound p) (single q)
-
-  asked-list : (qs : List Asked) → noOrder qs ≡ true → different qs ≡ true → answersOn s (bytesOf r) (singles qs) ≡ map (askedCall s (bytesOf r)) qs
-  asked-list qs o d = answers-is s e r k (singles qs) ∙ singles-answers g r qs ∙ each-alone g r qs o d ∙ sym (map-ext (askedCall s (bytesOf r)) (answer g r) asked qs)
-
-  left-list : (qs : List Asked) → leftOn s (bytesOf r) (singles qs) ≡ bytesOf (final g r qs)
-  left-list qs = left-is s e r k (singles qs) ∙ ap bytesOf (singles-final g r qs)
-
-  no-order-late : (qs ps : List Asked) → noOrder qs ≡ true → Rearranged qs ps → noOrder ps ≡ true
-  unfolding noOrder
-  no-order-late qs ps o p = every-rearranged isReply qs ps p o
-
-  -- ---- blocks
-
-  fit-is : (lines : List Line) → every accepts (map (askedCall s (bytesOf r)) (map replyOn lines)) ≡ every accepts (map (answer g r) (map replyOn lines))
-  fit-is lines = ap (every accepts) (map-ext (askedCall s (bytesOf r)) (answer g r) asked (map replyOn lines))
-
-  -- a block that is taken whole
-  module _ (block : List ℕ) (w : wellFormed block ≡ true) (f : allFit s (bytesOf r) block ≡ true) (d : allDiffer block ≡ true) where
-    block-is : blockOf g r (linesOf block) ≡ record { kept = length (linesOf block); fault = 0; run = final g r (repliesOn block) }
-    unfolding wellFormed allFit allDiffer repliesOn
-    block-is = block-whole g (ok .shape .bookings) r (linesOf block) w (sym (fit-is (linesOf block)) ∙ f) d
-
-    block-answer : blockCall s block (bytesOf r) ≡ pack 6 0 (length (linesOf block))
-    unfolding gives givesBy blockBits bitsOf
-    block-answer = gives-is s e r k (call block) ∙ ap blockBits block-is
-
-    block-left : blockLeaves s block (bytesOf r) ≡ bytesOf (final g r (repliesOn block))
-    unfolding leaves leavesBy
-    block-left = leaves-is s e r k (call block) ∙ ap (λ (t : Block). bytesOf (t .run)) block-is
-
-  -- and the same lines in another order
-  module _ (block : List ℕ) (rows : List (List ℕ)) (w : wellFormed block ≡ true) (f : allFit s (bytesOf r) block ≡ true) (d : allDiffer block ≡ true) (p : Rearranged (rowsOf block) rows) where
-    abbrev other : List ℕ
-    other = joined rows
-
-    lines-p : Rearranged (linesOf block) (linesOf other)
-    lines-p = rows-lines block other (rw (rows-stay block rows w p) p)
-
-    replies-p : Rearranged (repliesOn block) (repliesOn other)
-    unfolding repliesOn
-    replies-p = map-rearranged replyOn (linesOf block) (linesOf other) lines-p
-
-    no-order : noOrder (repliesOn block) ≡ true
-    unfolding repliesOn
-    no-order = only-replies (linesOf block)
-
-    other-formed : wellFormed other ≡ true
-    unfolding wellFormed
-    other-formed = every-rearranged isGiven (linesOf block) (linesOf other) lines-p w
-
-    other-fits : allFit s (bytesOf r) other ≡ true
-    unfolding allFit
-    other-fits =
-        every-rearranged accepts (map (askedCall s (bytesOf r)) (repliesOn block)) (map (askedCall s (bytesOf r)) (repliesOn other))
-        (map-rearranged (askedCall s (bytesOf r)) (repliesOn block) (repliesOn other) replies-p) f
-
-    other-differs : allDiffer other ≡ true
-    unfolding allDiffer
-    other-differs = different-rearranged (repliesOn block) (repliesOn other) replies-p no-order d
-
-    other-left : blockLeaves s other (bytesOf r) ≡ bytesOf (final g r (repliesOn block))
-    unfolding allDiffer
-    other-left = block-left other other-formed other-fits other-differs ∙ ap bytesOf (same-final g ok r k (repliesOn block) (repliesOn other) no-order d replies-p)
-
-    other-answer : blockCall s other (bytesOf r) ≡ pack 6 0 (length (linesOf other))
-    other-answer = block-answer other other-formed other-fits other-differs
-
-  -- what an accepted block tells
-  sound-told : (block : List ℕ) → accepts (blockCall s block (bytesOf r)) ≡ true → (wellFormed block ≡ true) × (allFit s (bytesOf r) block ≡ true) × (allDiffer block ≡ true)
-  unfolding wellFormed allFit allDiffer repliesOn gives givesBy
-  sound-told block a =
-      let t : Block = blockOf g r (linesOf block) in
-      let few = kept-few g (ok .shape .bookings) r (k .core .size) (linesOf block) in
-      let z = no-fault t few (fault-few g r (linesOf block)) (ap accepts (sym (gives-is s e r k (call block))) ∙ a) in
-      let (w, f, d) = whole-told g ok r k (linesOf block) z in
-      (w, fit-is (linesOf block) ∙ f, d)
-
-  -- ---- all of it
-
-  pub from-sound : AnyOrder s (bytesOf r)
-  from-sound =
+  in-any-order : (qs ps : List Asked) → ordersTaken s bs qs ≡ 0 → ordersTaken s bs ps ≡ 0 → different (repliesIn qs) ≡ true → Rearranged (repliesIn qs) (repliesIn ps) → InAnyOrder s bs qs ps
+  in-any-order qs ps z y d p =
+      let k = replies s bs in
+      let q = replies-alone s bs qs z in
+      let r = replies-alone s bs ps y in
       record {
-        two = λ l b m c d. record {
-          one = asked-after (replied m c) (replied l b) ∙ answered-alike g r l b m c d ∙ sym (asked (replied l b));
-          other = asked-after (replied l b) (replied m c) ∙ answered-alike g r m c l b (λ z. d (sym z)) ∙ sym (asked (replied m c));
-          state = left-after (replied l b) (replied m c) ∙ ap bytesOf (two-replies g r (k .core) l b m c d) ∙ sym (left-after (replied m c) (replied l b));
-        };
-        several = λ qs ps o d p. record {
-          alone = asked-list qs o d;
-          alike = asked-list ps (no-order-late qs ps o p) (different-rearranged qs ps p o d);
-          state = left-list ps ∙ ap bytesOf (same-final g ok r k qs ps o d p) ∙ sym (left-list qs);
-        };
-        blocks = λ block rows w f d p. record {
-          answer = other-answer block rows w f d p ∙ ap (pack 6 0) (length-rearranged (linesOf block) (linesOf (joined rows)) (lines-p block rows w f d p)) ∙ sym (block-answer block w f d);
-          state = other-left block rows w f d p ∙ sym (block-left block w f d);
-          whole = λ o. other-answer block rows w f d p;
-          singly = other-left block rows w f d p ∙ sym (left-list (repliesOn block));
-        };
-        told = sound-told;
+        alone = q .0 ∙ k .alone (repliesIn qs) (only-replies qs) d;
+        alike = r .0 ∙ k .alone (repliesIn ps) (only-replies ps) (late-differ qs ps d p);
+        state = r .1 ∙ k .state (repliesIn qs) (repliesIn ps) (only-replies qs) d p ∙ sym (q .1);
       }
 
--- ---- where the sheet is refused or the state is not sound
-
-module _ (s bs : List ℕ) (o : inOrder s bs ≡ false) where
-  refused : (q : Asked) → askedCall s bs q ≡ refusedWith s
-  refused q = sym (refused-asked s bs o q .0)
-
-  unchanged : (q : Asked) → askedLeaves s bs q ≡ bs
-  unchanged q = sym (refused-asked s bs o q .1)
-
-  refused-list : (qs : List Asked) → answersOn s bs (singles qs) ≡ map (askedCall s bs) qs
-  unfolding answersOn gives leaves
-  refused-list [] = refl
-  refused-list (q ∷ qs) = ap (λ (xs : List ℕ). askedCall s bs q ∷ xs) (ap (λ (t : List ℕ). answersOn s t (singles qs)) (unchanged q) ∙ refused-list qs)
-
-  unchanged-list : (qs : List Asked) → leftOn s bs (singles qs) ≡ bs
-  unfolding leftOn leaves
-  unchanged-list [] = refl
-  unchanged-list (q ∷ qs) = ap (λ (t : List ℕ). leftOn s t (singles qs)) (unchanged q) ∙ unchanged-list qs
-
-  block-refused : (block : List ℕ) → blockCall s block bs ≡ refusedWith s
-  unfolding blockCall
-  block-refused block = rw o refl
-
-  block-unchanged : (block : List ℕ) → blockLeaves s block bs ≡ bs
-  unfolding blockLeaves
-  block-unchanged block = rw o refl
-
-  not-accepted : accepts (refusedWith s) ≡ false
-  unfolding accepts kindOf refusedWith unsound pack
-  not-accepted = elim (which (sheetPasses s)) [ inl p ↦ rw p refl | inr p ↦ rw p (ne-eqb (checkCall s / 16777216) 6 (λ z. omega (arith, refused-low s p))) ]
-
-  from-refused : AnyOrder s bs
-  from-refused =
+  -- of two replies
+  either-way : (l b m c : ℕ) → b ≢ c → EitherWay s bs (replied l b) (replied m c)
+  unfolding noOrder every isReply notTo different Rearranged answersOn leftOn gives leaves
+  either-way l b m c d =
+      let k = replies s bs in
+      let p : Asked = replied l b in
+      let q : Asked = replied m c in
+      let pq : different (p ∷ q ∷ []) ≡ true = rw (ne-eqb c b (λ e. d (sym e))) in
+      let qp : different (q ∷ p ∷ []) ≡ true = rw (ne-eqb b c d) in
       record {
-        two = λ l b m c d. record {
-          one = ap (λ (t : List ℕ). askedCall s t (replied l b)) (unchanged (replied m c));
-          other = ap (λ (t : List ℕ). askedCall s t (replied m c)) (unchanged (replied l b));
-          state = ap (λ (t : List ℕ). askedLeaves s t (replied m c)) (unchanged (replied l b)) ∙ unchanged (replied m c)
-              ∙ sym (ap (λ (t : List ℕ). askedLeaves s t (replied l b)) (unchanged (replied m c)) ∙ unchanged (replied l b));
-        };
-        several = λ qs ps n d p. record { alone = refused-list qs; alike = refused-list ps; state = unchanged-list ps ∙ sym (unchanged-list qs) };
-        blocks = λ block rows w f d p. record {
-          answer = block-refused (joined rows) ∙ sym (block-refused block);
-          state = block-unchanged (joined rows) ∙ sym (block-unchanged block);
-          whole = λ z. clash (inOrder s bs) z o;
-          singly = block-unchanged (joined rows) ∙ sym (unchanged-list (repliesOn block));
-        };
-        told = λ block a. clash (accepts (refusedWith s)) (ap accepts (sym (block-refused block)) ∙ a) not-accepted;
+        one = ap (λ (xs : List ℕ). getD xs 1 0) (k .alone (q ∷ p ∷ []) refl qp);
+        other = ap (λ (xs : List ℕ). getD xs 1 0) (k .alone (p ∷ q ∷ []) refl pq);
+        state = k .state (q ∷ p ∷ []) (p ∷ q ∷ []) refl qp (p ∷ [], [], refl, ([], [], refl, refl));
       }
 
--- for all bytes
+-- a list with blocks has the answers and leaves the state of the calls that it stands for, made singly; from every sound state
+module _ (s : List ℕ) (e : sheetPasses s ≡ true) (r : Run) (k : Sound (networkIn s) r) (cs : List Call) where
+  stands-for : singlyOn s (bytesOf r) cs ≡ flat (networkIn s) r cs
+  unfolding singlyOn
+  stands-for = rw (answers-is s e r k cs) (told-calls (networkIn s) (passing s e) r k cs)
+
+  told-singly : toldOn s (bytesOf r) cs ≡ answersOn s (bytesOf r) (singles (singlyOn s (bytesOf r) cs))
+  unfolding toldOn
+  told-singly =
+      rw (stands-for, answers-is s e r k cs, answers-is s e r k (singles (flat (networkIn s) r cs)), singles-answers (networkIn s) r (flat (networkIn s) r cs)) (told-answers (networkIn s) (passing s e) r k cs)
+
+  left-singly : leftOn s (bytesOf r) cs ≡ leftOn s (bytesOf r) (singles (singlyOn s (bytesOf r) cs))
+  left-singly =
+      rw (stands-for) (left-is s e r k cs ∙ ap bytesOf (sym (flat-final (networkIn s) r cs) ∙ sym (singles-final (networkIn s) r (flat (networkIn s) r cs))) ∙ sym (left-is s e r k (singles (flat (networkIn s) r cs))))
+
+-- so what holds of lists of single calls holds of lists with blocks
+mixed-sound : (s : List ℕ) (e : sheetPasses s ≡ true) (r : Run) → Sound (networkIn s) r → (cs ds : List Call)
+    → tally takes (singlyOn s (bytesOf r) cs) (toldOn s (bytesOf r) cs) ≡ 0 → tally takes (singlyOn s (bytesOf r) ds) (toldOn s (bytesOf r) ds) ≡ 0
+    → different (repliesIn (singlyOn s (bytesOf r) cs)) ≡ true → Rearranged (repliesIn (singlyOn s (bytesOf r) cs)) (repliesIn (singlyOn s (bytesOf r) ds)) → MixedInAnyOrder s (bytesOf r) cs ds
+unfolding ordersTaken
+mixed-sound s e r k cs ds z y d p =
+    let c = told-singly s e r k cs in
+    let f = told-singly s e r k ds in
+    let t = in-any-order s (bytesOf r) (singlyOn s (bytesOf r) cs) (singlyOn s (bytesOf r) ds) (rw c at z) (rw f at y) d p in
+    record { alone = rw c (t .alone); alike = rw f (t .alike); state = left-singly s e r k ds ∙ t .state ∙ sym (left-singly s e r k cs) }
+
+-- ---- for all bytes
+
 pub any-order : (s bs : List ℕ) → AnyOrder s bs
-any-order s bs = elim (which (inOrder s bs)) [
-  | inl o ↦ subst (AnyOrder s) (bytes s bs o) (from-sound s (sheet-passes s bs o) (runOf bs) (state-holds s bs o))
-  | inr o ↦ from-refused s bs o
-]
+any-order s bs =
+    record {
+      two = either-way s bs;
+      several = in-any-order s bs;
+      blocks = replies s bs .blocks;
+      told = replies s bs .told;
+      mixed = λ o. subst
+          (λ (t : List ℕ). (cs ds : List Call) → tally takes (singlyOn s t cs) (toldOn s t cs) ≡ 0 → tally takes (singlyOn s t ds) (toldOn s t ds) ≡ 0
+          → different (repliesIn (singlyOn s t cs)) ≡ true → Rearranged (repliesIn (singlyOn s t cs)) (repliesIn (singlyOn s t ds)) → MixedInAnyOrder s t cs ds)
+          (bytes s bs o) (mixed-sound s (sheet-passes s bs o) (runOf bs) (state-holds s bs o));
+    }
 
 -- and so for every campaign
-pub same-plan : (s bs : List ℕ) (gaps late : List (List Asked)) → Delayed gaps late → SamePlan s bs gaps late
+pub same-plan : (s bs : List ℕ) (gaps late : List (List Asked)) → Delayed s bs gaps late → SamePlan s bs gaps late
 unfolding Delayed ordersOn stateOn
 same-plan s bs [] late d = rw d (record { orders = refl; state = refl })
 same-plan s bs (qs ∷ gaps) [] d = absurd d
 same-plan s bs (qs ∷ gaps) (ps ∷ late) d =
     let left : List ℕ = leftOn s bs (singles qs) in
-    let same = any-order s bs .several qs ps (d .0) (d .1) (d .2) .state in
-    let t = same-plan s (askedLeaves s left nextOrder) gaps late (d .3) in
+    let same = in-any-order s bs qs ps (d .0) (d .1) (d .2) (d .3) .state in
+    let t = same-plan s (askedLeaves s left nextOrder) gaps late (d .4) in
     record { orders = rw same (ap (λ (xs : List ℕ). askedCall s left nextOrder ∷ xs) (t .orders)); state = rw same (t .state) }
