@@ -2,4 +2,5 @@
 pub mod OneLine
 pub mod Blocks
 pub mod Replays
+pub mod OpenOrders
 pub mod Stopped

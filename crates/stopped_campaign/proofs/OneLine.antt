@@ -49,7 +49,7 @@ unfolding entryOf accepts
 misfit-line l b = rw (kind-pack 0 9 (place9 b) (omega arith) (omega (arith, small-9 b)))
 
 -- where nothing is to be sent there is no line
-silent-kind : {r : Run} {o : Order} → Silent r o → r .way < 65536 → 3 ≤ kindOf (orderBits o)
+pub silent-kind : {r : Run} {o : Order} → Silent r o → r .way < 65536 → 3 ≤ kindOf (orderBits o)
 unfolding orderBits kindOf pack
 silent-kind waits w = omega arith
 silent-kind is-off w = omega arith

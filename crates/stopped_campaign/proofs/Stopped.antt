@@ -2,24 +2,21 @@
 -- Assumes nothing.
 use mathlib.Core.Path.{_≡_, refl, sym, ap, _∙_}
 use mathlib.Core.Logic.{inl, inr}
-use mathlib.Core.Bool.{true}
+use mathlib.Core.Bool.{Bool, true}
 use mathlib.Core.List.{List, [], _∷_, _++_, map, append-assoc, append-nil}
-use Prim.Native.Nat.{ℕ, zero, suc, _+_, _*_, _/_, _≤_}
+use Prim.Native.Nat.{ℕ, _+_, _*_, _/_, _≤_}
 use native.Mathlib.Omega.{arith}
 use lib.Dec.{eqb}
 use native.Mathlib.Nat.{le-refl}
-use lib.ListN.{length, getD, take}
+use lib.ListN.{length, take}
 use lib.Seq.{take-length}
 use borrow.Author.Tests.{eqb-true, eq-eqb}
-use Rattle.bounded.specs.Bounded.{one}
 use Rattle.bounded.proofs.Bools.{which}
 use Rattle.run.specs.State.{code, start}
 use Rattle.run.specs.Bytes.{bytesOf}
 use Rattle.guarantee.specs.Answers.{pack, unsound}
 use Rattle.guarantee.specs.Machine.{Asked, nextOrder, replied, final}
-use Rattle.guarantee.specs.Counted.{ordered, answered, tally}
-use Rattle.guarantee.proofs.Start.{all-free, start-sound}
-use Rattle.guarantee.proofs.Moved.{awaits}
+use Rattle.guarantee.proofs.Start.{start-sound}
 use Rattle.guarantee.proofs.Whole.{travel}
 use Rattle.calls.specs.Calls.{networkIn, sheetPasses, checkCall, startLeaves}
 use Rattle.calls.proofs.FirstAnswer.{refused-low}
@@ -34,10 +31,11 @@ use Rattle.whole_campaign.proofs.Lists.{answers-append, states-append, left-app
 use Rattle.whole_campaign.proofs.Parts.{parts, told-kept, calls-told}
 use Rattle.calls.proofs.InOrder.{passing}
 use Rattle.whole_campaign.proofs.Whole.{gives-is, left-final, singles-left, singles-bits, answer-is, started, from-start}
-use Rattle.stopped_campaign.specs.Stopped.{journalOn, wholeLines, Writable, OfABlock, Faithful, isOpen, AcrossTheStop, Exact}
+use Rattle.stopped_campaign.specs.Stopped.{journalOn, wholeLines, Writable, OfABlock, Faithful, Open, AcrossTheStop, Exact}
 use Rattle.stopped_campaign.proofs.OneLine.{next-has, reply-has}
 use Rattle.stopped_campaign.proofs.Blocks.{kept-lines}
 use Rattle.stopped_campaign.proofs.Replays.{machineJournal, Cut, cut, Replays, replayed}
+use Rattle.stopped_campaign.proofs.OpenOrders.{Matched, of-requests, of-returns, open-orders}
 
 -- ---- what restart's answer says
 
@@ -104,16 +102,6 @@ journal-append s bs (c ∷ cs) ds =
     journal-on s bs c (cs ++ ds) ∙ ap (λ (t : List ℕ). entriesOf c (gives s bs c) ++ t) (journal-append s (leaves s bs c) cs ds)
     ∙ sym (append-assoc (entriesOf c (gives s bs c)) (journalOn s (leaves s bs c) cs) (journalOn s (leftOn s (leaves s bs c) cs) ds))
     ∙ ap (λ (t : List ℕ). t ++ journalOn s (leftOn s (leaves s bs c) cs) ds) (sym (journal-on s bs c cs))
-
--- a reply is awaited where the code says that an order is open
-open-is : (c : ℕ) → c ≤ 4 → awaits c ≡ one (isOpen c)
-unfolding isOpen
-open-is zero h = refl
-open-is (suc zero) h = refl
-open-is (suc (suc zero)) h = refl
-open-is (suc (suc (suc zero))) h = refl
-open-is (suc (suc (suc (suc zero)))) h = refl
-open-is (suc (suc (suc (suc (suc c))))) h = absurd (omega arith)
 
 module _ (s : List ℕ) (e : sheetPasses s ≡ true) where
   bookings : networkIn s .n ≤ 64
@@ -230,15 +218,12 @@ module _ (s : List ℕ) (e : sheetPasses s ≡ true) where
 
   -- ---- across the stop
 
-  -- the open orders after a list of calls, by the bytes that it leaves
-  open-after : (qs : List Asked) (b : ℕ) → tally (ordered (suc b)) qs (answersOn s (bytesOf start) (singles qs))
-      ≡ tally (answered (suc b)) qs (answersOn s (bytesOf start) (singles qs)) + one (isOpen (getD (leftOn s (bytesOf start) (singles qs)) (suc b) 0))
+  -- the open orders of a journal that restart accepts, by the bytes that it leaves
+  open-start : (journal lent : List ℕ) → Accepted s journal lent → {kind c : ℕ} {letters : ℕ → Bool} → Matched kind letters c → Open s (bytesOf start) lent journal kind letters c
   unfolding bytesOf code
-  open-after qs b =
-      let ok = passing s e in
-      let k = travel (networkIn s) ok start (start-sound (networkIn s) ok) qs in
-      let c : ℕ = code (final (networkIn s) start qs) b in
-      rw (singles-bits s e qs, singles-left s e qs) (omega (arith, k .opens b, ap awaits (all-free b), open-is c (k .sound .core .codes b)))
+  open-start journal lent a k b =
+      let qs : List Asked = callsOf journal in
+      rw (left-calls journal lent a, singles-bits s e qs, singles-left s e qs) (open-orders (networkIn s) (passing s e) k qs b)
 
   across-start : (journal lent : List ℕ) → Accepted s journal lent → (cs : List Call) → AcrossTheStop s (bytesOf start) lent journal cs
   across-start journal lent a cs =
@@ -249,7 +234,8 @@ module _ (s : List ℕ) (e : sheetPasses s ≡ true) where
         states = states-append s (bytesOf start) (singles (callsOf journal)) cs ∙ rw l;
         stored = rw l (ap (λ (t : List ℕ). t ++ journalOn s (leftOn s (bytesOf start) (singles (callsOf journal))) cs) (exact-start journal lent a) ∙ sym (journal-append s (bytesOf start) (singles (callsOf journal)) cs));
         whole = from-start s e (singles (callsOf journal) ++ cs);
-        unanswered = λ b. rw l (open-after (callsOf journal) b);
+        open-requests = open-start journal lent a of-requests;
+        open-returns = open-start journal lent a of-returns;
       }
 
 -- ---- the theorems, from the state that start leaves, whatever its 65 bytes were before

@@ -3,17 +3,18 @@
 -- says; it was lent the 65 bytes `lent`.
 -- Assumes nothing.
 use mathlib.Core.Path.{_≡_}
-use mathlib.Core.Bool.{Bool, true, _||_}
+use mathlib.Core.Bool.{Bool, true, _&&_, _||_}
 use mathlib.Core.List.{List, [], _∷_, _++_}
 use Prim.Native.Nat.{ℕ, suc, _+_, _*_, _/_, _≤_}
 use lib.Dec.{eqb}
 use lib.ListN.{length, getD, take}
 use Rattle.bounded.specs.Bounded.{one}
 use Rattle.standing.specs.Standing.{requested, returning}
+use Rattle.run.specs.Replies.{Y, N, G, K}
 use Rattle.event_lines.specs.Line.{Q, U}
 use Rattle.guarantee.specs.Answers.{pack, kindOf, placeOf}
 use Rattle.guarantee.specs.Machine.{Asked, nextOrder, replied}
-use Rattle.guarantee.specs.Counted.{accepts, ordered, answered, tally}
+use Rattle.guarantee.specs.Counted.{accepts, tally}
 use Rattle.calls.specs.Calls.{askedCall}
 use Rattle.journal_calls.specs.Journal.{journalOf, callsOf, hasLine}
 use Rattle.journal_calls.specs.Restart.{restartCall, restartLeaves}
@@ -56,9 +57,29 @@ pub record Faithful (s begun lent : List ℕ) (cs : List Call) (c : ℕ) : Type 
   -- with the whole journal it is the state after all the calls
   pub whole : length (journalOn s begun cs) ≤ c → restartLeaves s (take c (journalOn s begun cs)) lent ≡ leftOn s begun cs
 
--- a booking's byte says that an order is open: requested or returning
-unfoldable pub isOpen : ℕ → Bool
-isOpen code = eqb code requested || eqb code returning
+-- ---- the open orders, counted from the calls and their 32 bits alone
+
+-- an order of a kind, 1 a request and 2 a return, names booking b
+unfoldable pub orderedAs : ℕ → ℕ → Asked → ℕ → ℕ
+orderedAs kind b nextOrder x = one (eqb (placeOf x) b && eqb (kindOf x) kind)
+orderedAs kind b (replied l n) x = 0
+
+-- an accepted reply with one of the letters names booking b
+unfoldable pub answeredBy : (ℕ → Bool) → ℕ → Asked → ℕ → ℕ
+answeredBy letters b nextOrder x = 0
+answeredBy letters b (replied l n) x = one (accepts x && (eqb n b && letters l))
+
+-- the letters that answer a request, and those that answer a return
+unfoldable pub answersRequest : ℕ → Bool
+answersRequest l = eqb l Y || eqb l N
+
+unfoldable pub answersReturn : ℕ → Bool
+answersReturn l = eqb l G || eqb l K
+
+-- OPEN. Of a booking whose byte is the code one order of the kind more was taken than replies with the letters accepted, of any other as many.
+abbrev pub Open : List ℕ → List ℕ → List ℕ → List ℕ → ℕ → (ℕ → Bool) → ℕ → Type 0
+Open s begun lent journal kind letters code = (b : ℕ) → tally (orderedAs kind (suc b)) (callsOf journal) (answersOn s begun (singles (callsOf journal)))
+    ≡ tally (answeredBy letters (suc b)) (callsOf journal) (answersOn s begun (singles (callsOf journal))) + one (eqb (getD (restartLeaves s journal lent) (suc b) 0) code)
 
 -- ACROSS THE STOP. Restart accepts a journal, and the calls cs are made after it.
 pub record AcrossTheStop (s begun lent journal : List ℕ) (cs : List Call) : Type 0 where
@@ -71,9 +92,9 @@ pub record AcrossTheStop (s begun lent journal : List ℕ) (cs : List Call) : Ty
   pub stored : wholeLines journal ++ journalOn s (restartLeaves s journal lent) cs ≡ journalOn s begun (singles (callsOf journal) ++ cs)
   -- and both as one are a whole campaign, with all that is claimed of one
   pub whole : WholeCampaign s begun (singles (callsOf journal) ++ cs)
-  -- the orders to send again: of each booking whose byte says so one more request or return was taken than replies accepted, of no other
-  pub unanswered : (b : ℕ) → tally (ordered (suc b)) (callsOf journal) (answersOn s begun (singles (callsOf journal)))
-      ≡ tally (answered (suc b)) (callsOf journal) (answersOn s begun (singles (callsOf journal))) + one (isOpen (getD (restartLeaves s journal lent) (suc b) 0))
+  -- the orders to send again: a request of each booking whose byte is 1, a return of each whose byte is 4, and no other
+  pub open-requests : Open s begun lent journal 1 answersRequest requested
+  pub open-returns : Open s begun lent journal 2 answersReturn returning
 
 -- EXACT. A journal that restart accepts is, but for its tail, the journal of its calls; nothing else is accepted.
 abbrev pub Exact : List ℕ → List ℕ → List ℕ → Type 0
