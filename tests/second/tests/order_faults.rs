@@ -1,8 +1,8 @@
-//! Wrong versions of reply for which it matters which reply comes first: the comparison must find
-//! each by that alone, without the second version.
+//! Wrong versions of reply and of next order for which it matters which reply comes first: the
+//! comparison must find each by that alone, without the second version.
 
 use second::as_second;
-use second::calls::{self, pack, Judged, ACCEPTED, REFUSED};
+use second::calls::{self, pack, Judged, ACCEPTED, REFUSED, WAIT};
 use second::check::Network;
 use second::comparison::any_order::ORDER_MATTERS;
 use second::comparison::{Campaign, Comparison, Second};
@@ -22,6 +22,10 @@ enum Fault {
     ReturnsTogether,
     // A reply is refused while a lower booking's is due.
     LowestFirst,
+    // A next order that waits gives the highest request up.
+    GivesUpAtAWait,
+    // A next order that waits for other desks calls off, if a booking is lost.
+    CallsOffAtAWait,
 }
 
 use Fault::*;
@@ -53,7 +57,22 @@ impl Faulty {
 }
 
 impl Campaign for Faulty {
-    as_second!(check, start, next_order, reply_block, restart, journal_line, settle, passed_ways);
+    as_second!(check, start, reply_block, restart, journal_line, settle, passed_ways);
+
+    fn next_order(&self, sheet: &[u8], state: &mut [u8]) -> u32 {
+        let right = calls::next_order(sheet, state);
+        if calls::kind_of(right) == WAIT {
+            match self.0 {
+                GivesUpAtAWait => {
+                    let highest = state.iter_mut().skip(1).rfind(|code| **code == REQUESTED);
+                    highest.into_iter().for_each(|code| *code = run::FREE);
+                }
+                CallsOffAtAWait if state[1..].contains(&LOST) => state[0] = 0,
+                _ => {}
+            }
+        }
+        right
+    }
 
     fn reply(&self, sheet: &[u8], state: &mut [u8], letter: u8, booking: u32) -> u32 {
         let right = calls::reply(sheet, &mut state.to_vec(), letter, booking);
@@ -70,7 +89,8 @@ impl Campaign for Faulty {
     }
 }
 
-/// All pairs of replies to different bookings, from all sound states of small plans.
+/// All pairs of replies to different bookings, alone and with a next order between, from all sound
+/// states of small plans.
 fn compared(fault: Fault) -> Result<(), String> {
     Comparison::new(&Faulty(fault), false).every_small_pair()
 }
@@ -82,7 +102,15 @@ fn the_second_version_takes_replies_in_any_order() {
 
 #[test]
 fn versions_for_which_the_order_of_replies_matters_are_found() {
-    for fault in [SwitchesAtOnce, SwitchesAfterNoAlone, ClosedByARefusal, ReturnsTogether, LowestFirst] {
+    for fault in [
+        SwitchesAtOnce,
+        SwitchesAfterNoAlone,
+        ClosedByARefusal,
+        ReturnsTogether,
+        LowestFirst,
+        GivesUpAtAWait,
+        CallsOffAtAWait,
+    ] {
         let told = compared(fault).expect_err(&format!("{fault:?} is not found"));
         assert!(told.contains(ORDER_MATTERS), "{fault:?} is found by something else:\n{told}");
     }

@@ -10,7 +10,7 @@ use super::tally::Tally;
 use super::walks::{any_reply, changed};
 use super::{name_of, second_answer, shown_answer, shown_call, shown_state};
 use super::{Call, Case, Comparison, Made, Outcome};
-use crate::calls::{kind_of, pack, refusal_of, ACCEPTED, REFUSED};
+use crate::calls::{kind_of, pack, refusal_of, ACCEPTED, REFUSED, REQUEST, RETURN};
 use crate::dice::Dice;
 use crate::flights::{self, lines, plan_of, state_of};
 use crate::journal::LINE_LENGTH;
@@ -30,13 +30,15 @@ const FULL: &str = "any order: blocks of 64 lines shuffled";
 const SINGLY: &str = "any order: lists of replies shuffled";
 const SAME_BOOKING: &str = "any order: pairs to one booking, which the order decides";
 const ORDER_BETWEEN: &str = "any order: pairs with an order between, which the order decides";
+const NONE_TAKEN: &str = "any order: pairs with a next order between that takes no order";
+const ASKED: &str = "any order: lists with next orders that take no order";
 const BAD_LINE: &str = "any order: blocks with a bad line, which the order decides";
 
 /// What the report says where the order of replies matters and must not.
 pub const ORDER_MATTERS: &str = "the order of these replies matters:";
 
 /// What must have been met so often before the rounds, or too little was shown.
-const FEWEST: [(&str, u64); 14] = [
+const FEWEST: [(&str, u64); 16] = [
     (PAIRS, 100_000),
     (BOTH, 50_000),
     (ONE, 10_000),
@@ -50,6 +52,8 @@ const FEWEST: [(&str, u64); 14] = [
     (SINGLY, 1_000),
     (SAME_BOOKING, 5_000),
     (ORDER_BETWEEN, 1_000),
+    (NONE_TAKEN, 50_000),
+    (ASKED, 5_000),
     (BAD_LINE, 1_000),
 ];
 
@@ -77,6 +81,11 @@ impl Given {
     /// Whether each reply got the same answer, and the bytes left are the same.
     fn is_like(&self, other: &Given) -> bool {
         self.to_replies() == other.to_replies() && self.state == other.state
+    }
+
+    /// Whether a next order was answered with a request or a return.
+    fn takes_an_order(&self) -> bool {
+        self.answers.iter().any(|(_, answer)| [REQUEST, RETURN].contains(&kind_of(*answer)))
     }
 
     fn accepted(&self) -> usize {
@@ -169,8 +178,13 @@ impl Comparison<'_> {
     /// they came to.
     fn order_is_free(&mut self, case: &Case, from: &[u8], [one, other]: [&[Call]; 2]) -> Outcome<Given> {
         let [one, other] = [self.given(case, from, one)?, self.given(case, from, other)?];
-        if one.is_like(&other) {
-            return Ok(one);
+        self.demand_free(case, from, [&one, &other])?;
+        Ok(one)
+    }
+
+    fn demand_free(&mut self, case: &Case, from: &[u8], [one, other]: [&Given; 2]) -> Outcome {
+        if one.is_like(other) {
+            return Ok(());
         }
         let told = format!("{ORDER_MATTERS}\n{}and in another order:\n{}", one.shown(), other.shown());
         Err(self.report(case, from, &told))
@@ -207,6 +221,7 @@ impl Comparison<'_> {
         for (b, c) in plan.bookings().flat_map(|b| (1..b).map(move |c| (b, c))) {
             for (p, q) in replies(b).into_iter().flat_map(|p| replies(c).map(|q| (p, q))) {
                 self.free_pair(case, from, [p, q])?;
+                self.with_a_next_order_between(case, from, [p, q])?;
             }
         }
         Ok(())
@@ -240,14 +255,18 @@ impl Comparison<'_> {
         self.demand_as_second(case, from, &one)
     }
 
-    /// With an order between them the order of two replies may decide.
-    fn with_an_order_between(&mut self, case: &Case, from: &[u8], [p, q]: [Call; 2]) -> Outcome {
+    /// A next order between two replies changes nothing if it takes no order either
+    /// way round; if it takes one, it may decide. Gives what they came to.
+    fn with_a_next_order_between(&mut self, case: &Case, from: &[u8], [p, q]: [Call; 2]) -> Outcome<Given> {
         let one = self.given(case, from, &[p, Call::NextOrder, q])?;
         let other = self.given(case, from, &[q, Call::NextOrder, p])?;
-        if !one.is_like(&other) {
+        if !one.takes_an_order() && !other.takes_an_order() {
+            self.demand_free(case, from, [&one, &other])?;
+            self.tally.event(NONE_TAKEN);
+        } else if !one.is_like(&other) {
             self.tally.event(ORDER_BETWEEN);
         }
-        self.demand_as_second(case, from, &one)
+        Ok(one)
     }
 }
 
@@ -272,7 +291,8 @@ impl Comparison<'_> {
         Ok(())
     }
 
-    /// Replies to all open orders, and some that do not fit, given singly in two orders.
+    /// Replies to all open orders, and some that do not fit, given singly in two
+    /// orders; then the same with next orders anywhere, as far as they take none.
     fn shuffled_replies(&mut self, case: &Case, from: &[u8], plan: &Plan, dice: &mut Dice) -> Outcome {
         let reply = |booking: usize| match letters(from[booking]) {
             letters if letters.is_empty() || dice.percent(10) => {
@@ -285,7 +305,27 @@ impl Comparison<'_> {
         let other = in_another_order(dice, &replies);
         let given = self.order_is_free(case, from, [&replies, &other])?;
         self.tally.event(SINGLY);
-        self.demand_as_second(case, from, &given)
+        self.demand_as_second(case, from, &given)?;
+        self.asked_between(case, from, [&replies, &other], dice)
+    }
+
+    /// The same replies in two orders, all but the last few of each, with next orders
+    /// among them: after every reply, as a dispatcher asks, and at places of their own.
+    fn asked_between(&mut self, case: &Case, from: &[u8], lists: [&[Call]; 2], dice: &mut Dice) -> Outcome {
+        let few = dice.between(1, lists[0].len());
+        let kept = &lists[0][..few];
+        let other: Vec<Call> = lists[1].iter().filter(|call| kept.contains(call)).copied().collect();
+        let every = kept.iter().flat_map(|&call| [call, Call::NextOrder]).collect::<Vec<_>>();
+        let some = other
+            .iter()
+            .flat_map(|&call| if dice.percent(50) { vec![Call::NextOrder, call] } else { vec![call] })
+            .collect::<Vec<_>>();
+        let [one, other] = [self.given(case, from, &every)?, self.given(case, from, &some)?];
+        if !one.takes_an_order() && !other.takes_an_order() {
+            self.demand_free(case, from, [&one, &other])?;
+            self.tally.event(ASKED);
+        }
+        self.demand_as_second(case, from, &one)
     }
 
     /// With a line that does not fit the order of a block decides what is kept.
@@ -409,7 +449,8 @@ impl Comparison<'_> {
             let block = right_block(dice, plan, from);
             self.shuffled_block(case, from, &block, dice)?;
         }
-        self.with_an_order_between(case, from, two_replies(dice, plan, from))?;
+        let between = self.with_a_next_order_between(case, from, two_replies(dice, plan, from))?;
+        self.demand_as_second(case, from, &between)?;
         self.to_one_booking(case, from, dice.pick(&open_orders(plan, from)))?;
         self.shuffled_replies(case, from, plan, dice)?;
         self.with_a_bad_line(case, from, &right_block(dice, plan, from))
