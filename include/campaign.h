@@ -312,10 +312,13 @@ uint32_t campaign_next_order(const uint8_t *sheet, size_t sheet_len,
  * a copy is refused with 9 as long as the booking has no open order, but if the
  * same booking has been ordered again meanwhile, the copy answers that order.
  *
- * Replies to different bookings may come in any order, as long as no next order
- * is asked for between them: each gets the same answer, and together they leave
- * the same state. Of several replies to one booking the first that fits is
- * taken, and no other.
+ * Replies to different bookings may come in any order, as long as no order is
+ * taken between them, whichever comes first: each gets the same answer, and
+ * together they leave the same state. An order is taken where
+ * campaign_next_order answers request or return. A wait or the end takes none,
+ * so it does not matter how often and where it is asked, after every reply too,
+ * while that is what it answers. Of several replies to one booking the first that
+ * fits is taken, and no other.
  */
 uint32_t campaign_reply(const uint8_t *sheet, size_t sheet_len,
                         uint8_t *state, size_t state_len,

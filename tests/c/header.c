@@ -555,9 +555,18 @@ static void campaigns_with_desks(void)
 static const char late[] = "P   3   1   3  64\nB   1 C   3\nB   2 C   1\nB   3 P   2\nL   2   3\n"
                            "A   3   1   2   3\nA   1   2\nA   2   2   3\n";
 
-/* Replies to different bookings in either order; with an order between them the order matters. */
+/* Three range slots, all in the one way. */
+static const char three[] = "P   3   0   1  64\nB   1 C   1\nB   2 C   1\nB   3 C   1\nA   3   1   2   3\n";
+
+/*
+ * Replies to different bookings in any order; a dispatcher asks after each of them, as the header says, and a wait changes
+ * nothing. With an order taken between them the order matters.
+ */
 static void late_replies(void)
 {
+    play(three, "Q1Q2Q3W0" "Y1W0N2W0Y3" "U1U3W0" "G1W0G3" "O0");
+    play(three, "Q1Q2Q3W0" "Y3W0Y1W0N2" "U1U3W0" "G3W0G1" "O0");
+    play(three, "Q1Q2Q3W0" "N2W0W0Y3Y1" "U1U3W0" "W0G3W0G1" "O0");
     play(late, "Q1Q2W0" "N1Y2" "E2");
     play(late, "Q1Q2W0" "Y2N1" "E2");
     block(late, "\1\1\1\0\0", "N   1\nY   2\n", CAMPAIGN_ACCEPTED, 0, 2, "\2\3\2\0\0");
