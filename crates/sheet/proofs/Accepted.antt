@@ -1,6 +1,6 @@
 -- What an accepted sheet is: its plan is valid (`sheet-valid`), and its bytes are, to the last, the sheet of that plan (`sheet-accepted`). So its lines
--- have the plan's limit (`sheet-limit`), the letters of its kinds (`sheet-letters`), the numbers of its desks (`sheet-desks`) and the counts of its
--- ways (`sheet-counts`).
+-- have the plan's limit (`sheet-limit`), the letters of its kinds (`sheet-letters`), the numbers of its desks (`sheet-desks`), the counts of its
+-- ways (`sheet-counts`) and the numbers of their bookings (`sheet-ways`).
 -- Assumes nothing.
 use Prim.Native.Nat.{ℕ, _+_, _*_, _^_, _<_}
 use mathlib.Core.Path.{_≡_, refl, sym, ap, _∙_}
@@ -14,6 +14,7 @@ use lib.Seq.{drop-drop, drop-length}
 use borrow.Author.Tests.{eqb-true}
 use Rattle.bounded.specs.Bounded.{sum}
 use Rattle.bounded.proofs.Bools.{clash}
+use Rattle.sets.specs.Sets.{member}
 use Rattle.plan.specs.Judging.{isFine}
 use Rattle.plan.specs.Record.{recordOf}
 use Rattle.plan.specs.declared.Judged.{Judged}
@@ -33,7 +34,7 @@ use Rattle.lines.proofs.RoundTrip.{its-limit, head-accepted, head-limits}
 use Rattle.lines.proofs.AllLines.{letter-at, desk-at, BookingsAre, bookings-accepted, LinksAre, links-accepted}
 use Rattle.lines.proofs.Lengths.{no-bookings-length, no-links-length}
 use Rattle.ways.specs.WayText.{waysText, waysLength, sizeAt}
-use Rattle.ways.specs.Ways.{countsListed}
+use Rattle.ways.specs.Ways.{countsListed, listedOn}
 use Rattle.ways.proofs.WaysRoundTrip.{Read, all-accepted}
 use Rattle.sheet.specs.Sheet.{bookingsIn, linksIn, waysIn, planIn, refusedOf, endOf, bodyOf, sheetOf}
 use Rattle.sheet.specs.Text.{sheetText}
@@ -216,3 +217,9 @@ module _ (s : List ℕ) (e : isFine (sheetOf s .judged) ≡ true) where
       ≡ sum (sizeAt (sheetOf s .plan .way)) (sheetOf s .plan .a)
   unfolding planIn
   sheet-counts = rw (← read-plan) (the-ways s (stages s e) .counts)
+
+  -- and the numbers are those of the bookings in its sets
+  pub sheet-ways : (w b : ℕ) → w < sheetOf s .plan .a
+      → listedOn w b (drop (waysPlace (sheetOf s .plan .n) (sheetOf s .plan .m)) s) ≡ member (getD (sheetOf s .plan .way) w 0) b
+  unfolding planIn
+  sheet-ways = rw (← read-plan) (the-ways s (stages s e) .bookings)

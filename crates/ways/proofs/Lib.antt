@@ -3,6 +3,6 @@ pub mod ReadLaws
 pub mod TextLaws
 pub mod Members
 pub mod WayRoundTrip
-pub mod WaysRoundTrip
 pub mod WayNumbers
+pub mod WaysRoundTrip
 pub mod Places

@@ -20,13 +20,13 @@ use Rattle.sets.proofs.Insert.{insertAll, insert-all-lt}
 use Rattle.sets.proofs.Members.{fits-more}
 use Rattle.plan.specs.Limits.{within}
 use Rattle.plan.proofs.LimitLaws.{within-lo, within-hi, within-i}
-use Rattle.decimal.specs.Decimal.{columns, fieldOf, fieldAt, numberAt}
+use Rattle.decimal.specs.Decimal.{columns, fieldOf, fieldAt}
 use Rattle.decimal.specs.declared.Field.{Field}
 use Rattle.decimal.specs.declared.Field.the-variants.{Number, Blank, Fault}
 use Rattle.decimal.proofs.Fields.{number-in, field-front, field-text}
 use Rattle.decimal.proofs.Laws.{columns-length, written-read, read-written}
 use Rattle.ways.specs.WayText.{members, numbersText, wayFrontBytes, wayBytes, wayFront, wayText}
-use Rattle.ways.specs.Way.{countOf, numberThere, sequenceOrForm, afterNumber, gatherOf, lineFeedAt, asWay, membersOf, afterCount, wayLineOf}
+use Rattle.ways.specs.Way.{countOf, numberThere, sequenceOrForm, afterNumber, gatherOf, lineFeedAt, asWay, membersOf, afterCount, wayLineOf, countIn}
 use Rattle.ways.specs.declared.Gathered.{Gathered}
 use Rattle.ways.specs.declared.Gathered.the-variants as G
 use Rattle.ways.specs.declared.Way.the-variants.{Members, Malformed, OutOfLimits, OutOfSequence}
@@ -143,7 +143,7 @@ pub record WayIs (n k s : ℕ) (rest : List ℕ) : Type 0 where
   pub counted : k ≡ sizeOf s
   pub some : 1 ≤ k
   pub small : s < 2 ^ n
-  pub listed-count : numberAt 4 1 rest ≡ k
+  pub listed-count : countIn rest ≡ k
   pub text : rest ≡ wayText s ++ drop (wayBytes k) rest
 
 count-front : (front : List ℕ) (k : ℕ) → length front ≤ wayFrontBytes → countOf front ≡ Number k → front ≡ wayFront k
@@ -158,7 +158,7 @@ count-front (x ∷ t) k h e = go (eqb x 65) (eqb-true x 65) e
         rw (u, v)
     go false q i = clash true refl (cc)
 
-front-number : (rest : List ℕ) (k : ℕ) → take wayFrontBytes rest ≡ wayFront k → k < 10 ^ 4 → numberAt 4 1 rest ≡ k
+front-number : (rest : List ℕ) (k : ℕ) → take wayFrontBytes rest ≡ wayFront k → k < 10 ^ 4 → countIn rest ≡ k
 unfolding wayFront
 front-number [] k e h = clash true refl (cc)
 front-number (x ∷ t) k e h = let u : take 4 t ≡ columns 4 k = cc in number-in 4 1 k (x ∷ t) h u

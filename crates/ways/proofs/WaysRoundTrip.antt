@@ -1,30 +1,30 @@
 -- The lines of all ways: what is written is read back (`ways-read`), accepted lines are what is written of the sets that were read
--- (`ways-accepted`), and the counts that the lines list add up to the sizes of the sets.
+-- (`ways-accepted`), so that the counts that the lines list add up to the sizes of the sets, and their numbers are those of the sets' bookings.
 -- Assumes nothing.
 use mathlib.Core.Path.{_≡_, refl, sym, ap, _∙_}
-use mathlib.Core.Logic.{inl, inr}
 use mathlib.Core.Bool.{true}
 use mathlib.Core.List.{List, _++_, append-assoc}
 use Prim.Native.Nat.{ℕ, zero, suc, _+_, _^_, _≤_, _<_}
-use native.Mathlib.Nat.{eq-or-lt-of-le, le-refl, add-zero}
-use native.Mathlib.Numerals.{add-one}
+use native.Mathlib.Nat.{le-refl, zero-add, add-zero}
 use native.Mathlib.Omega.{arith}
 use lib.ListN.{length, getD, drop, set, length-append, length-set}
 use lib.Seq.{drop-at, drop-drop, getD-set-same, getD-set-other}
 use Rattle.bounded.specs.Bounded.{sum}
 use Rattle.bounded.proofs.Bools.{clash}
-use Rattle.sets.specs.Sets.{sizeOf}
+use Rattle.bounded.proofs.Sums.{sum-eq}
+use Rattle.sets.specs.Sets.{member, sizeOf}
 use Rattle.plan.specs.Limits.{mostWays}
 use Rattle.plan.specs.declared.Judged.the-variants.{Fine, Form, Count, Sequence}
 use Rattle.bounded.proofs.Filled.{filled}
 use Rattle.ways.specs.WayText.{wayBytes, wayText, waysText, sizeAt, waysLength}
 use Rattle.ways.specs.Way.{wayLineOf}
-use Rattle.ways.specs.Ways.{afterWay, waysOf, noWays, countsListed}
+use Rattle.ways.specs.Ways.{afterWay, waysOf, noWays, fromWayLine, countOn, countsListed, listedOn}
 use Rattle.ways.specs.declared.Way.{Way}
 use Rattle.ways.specs.declared.Way.the-variants.{Members, Malformed, OutOfLimits, OutOfSequence}
 use Rattle.ways.specs.declared.Ways.{Ways}
 use Rattle.ways.proofs.TextLaws.{way-length, length-step, none-yet}
 use Rattle.ways.proofs.WayRoundTrip.{way-read, WayIs, way-accepted}
+use Rattle.ways.proofs.WayNumbers.{way-members}
 
 -- ---- how long the lines are
 
@@ -76,13 +76,8 @@ ways-read n first (suc a) i at ws rest acc h v =
 pub record Accepted (n a i at next : ℕ) (rest acc ws : List ℕ) : Type 0 where
   pub text : rest ≡ waysText a i ws ++ drop (length (waysText a i ws)) rest
   pub place : next ≡ at + length (waysText a i ws)
-  pub writable : (k : ℕ) → i ≤ k → k < i + a → Writable n (getD ws k 0)
-  pub counts : sum (sizeAt ws) i + countsListed a rest ≡ sum (sizeAt ws) (i + a)
+  pub lines : (j : ℕ) → j < a → WayIs n (sizeOf (getD ws (i + j) 0)) (getD ws (i + j) 0) (fromWayLine j rest)
   pub kept : (j : ℕ) → j < i → getD ws j 0 ≡ getD acc j 0
-
-sum-size : (ws : List ℕ) (i : ℕ) → sum (sizeAt ws) (i + 1) ≡ sum (sizeAt ws) i + sizeOf (getD ws i 0)
-unfolding sum sizeAt
-sum-size ws i = rw add-one
 
 -- one line more in front
 module _ (n a i at next k s : ℕ) (rest acc ws : List ℕ) (h : i < length acc) (w : WayIs n k s rest)
@@ -105,39 +100,32 @@ module _ (n a i at next k s : ℕ) (rest acc ws : List ℕ) (h : i < length acc)
       ∙ sym (append-assoc (wayText s) (waysText a (i + 1) ws) (drop (length (waysText a (i + 1) ws)) (drop (wayBytes k) rest)))
       ∙ rw (d, is-way)
 
-  one-writable : (j : ℕ) → i ≤ j → j < i + suc a → Writable n (getD ws j 0)
-  one-writable j l u = elim (eq-or-lt-of-le l) [
-    | inl e ↦ rw (← e, is-way) (record { some = omega (arith, w .counted, w .some); small = w .small })
-    | inr m ↦ t .writable j (omega arith) (omega arith)
-  ]
-
-  one-counts : sum (sizeAt ws) i + countsListed (suc a) rest ≡ sum (sizeAt ws) (i + suc a)
-  unfolding countsListed
-  one-counts =
-      let e : i + suc a ≡ i + 1 + a = omega arith in
-      rw (w .listed-count, e) (omega (arith, t .counts, sum-size ws i, ap sizeOf is-way, w .counted))
+  one-lines : (j : ℕ) → j < suc a → WayIs n (sizeOf (getD ws (i + j) 0)) (getD ws (i + j) 0) (fromWayLine j rest)
+  unfolding fromWayLine
+  one-lines zero l = rw (add-zero i, is-way, ← (w .counted)) w
+  one-lines (suc j) l =
+      let e : i + suc j ≡ i + 1 + j = omega arith in
+      rw (e, w .listed-count) (t .lines j (omega arith))
 
   one-line : Accepted n (suc a) i at next rest acc ws
   unfolding waysText
   one-line = record {
     text = one-text;
     place = t .place ∙ omega (arith, long);
-    writable = one-writable;
-    counts = one-counts;
+    lines = one-lines;
     kept = λ j l. t .kept j (omega arith) ∙ getD-set-other acc i j s 0 (λ e. omega arith);
   }
 
 pub ways-accepted : (n first a i at next : ℕ) (rest acc ws : List ℕ) → n ≤ 64 → i + a ≤ length acc
     → waysOf n first a i at rest acc ≡ record { judged = Fine; next = next; way = ws } → Accepted n a i at next rest acc ws
-unfolding waysOf waysText countsListed
+unfolding waysOf waysText
 ways-accepted n first zero i at next rest acc ws h b e =
     let w : acc ≡ ws = ap (λ (r : Ways). r .way) e in
     let p : at ≡ next = ap (λ (r : Ways). r .next) e in
     record {
       text = refl;
       place = omega arith;
-      writable = λ k l u. absurd (omega arith);
-      counts = rw (add-zero (sum (sizeAt ws) i), add-zero i);
+      lines = λ j l. absurd (omega arith);
       kept = λ j l. ap (λ (r : List ℕ). getD r j 0) (sym w);
     }
 ways-accepted n first (suc a) i at next rest acc ws h b e =
@@ -160,28 +148,28 @@ none-length : length noWays ≡ mostWays
 unfolding noWays
 none-length = refl
 
-no-sum : (ws : List ℕ) → sum (sizeAt ws) 0 ≡ 0
-unfolding sum
-no-sum ws = refl
-
--- the a lines of an accepted sheet: their text, the place after them, what each way is, and s, the sum of the counts that they list
+-- the a lines of an accepted sheet: their text, the place after them, what each way is, s, the sum of the counts that they list, and whose numbers
+-- they list
 pub record Read (n a at next : ℕ) (rest ws : List ℕ) : Type 0 where
   pub text : rest ≡ waysText a 0 ws ++ drop (waysLength a ws) rest
   pub place : next ≡ at + waysLength a ws
   pub writable : (k : ℕ) → k < a → Writable n (getD ws k 0)
   pub counts : countsListed a rest ≡ sum (sizeAt ws) a
+  pub bookings : (w b : ℕ) → w < a → listedOn w b rest ≡ member (getD ws w 0) b
 
 pub all-accepted : (n first a at next : ℕ) (rest ws : List ℕ) → n ≤ 64 → a ≤ mostWays
     → waysOf n first a 0 at rest noWays ≡ record { judged = Fine; next = next; way = ws } → Read n a at next rest ws
+unfolding countsListed listedOn countOn sizeAt
 all-accepted n first a at next rest ws h b e =
     let t : Accepted n a 0 at next rest noWays ws = ways-accepted n first a 0 at next rest noWays ws h (omega (arith, none-length)) e in
-    let z : 0 + a ≡ a = omega arith in
+    let line : (w : ℕ) → w < a → WayIs n (sizeOf (getD ws w 0)) (getD ws w 0) (fromWayLine w rest) = λ w u. rw (zero-add w) at (t .lines w u) in
     let l : length (waysText a 0 ws) ≡ waysLength a ws = ways-length a ws in
     record {
       text = t .text ∙ rw l;
       place = omega (arith, t .place);
-      writable = λ k u. t .writable k (omega arith) (omega arith);
-      counts = omega (arith, no-sum ws, rw z at (t .counts));
+      writable = λ w u. record { some = line w u .some; small = line w u .small };
+      counts = sum-eq (countOn rest) (sizeAt ws) a (λ w u. line w u .listed-count);
+      bookings = λ w b u. sym (way-members n (sizeOf (getD ws w 0)) (getD ws w 0) (fromWayLine w rest) (line w u) h b);
     }
 
 -- what is written of a ways reads back as those ways

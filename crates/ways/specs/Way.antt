@@ -1,6 +1,6 @@
 -- Reading a way line: the letter and the count for form, the count for its limits, then the rest of the line for form, and last
 -- the numbers for their sequence. So a count outside its limits is told before anything that follows it, and a surplus number is a
--- fault of form.
+-- fault of form. Then what a line that was accepted has in its columns.
 -- Assumes nothing.
 use mathlib.Core.Bool.{Bool, true, false, cond}
 use mathlib.Core.List.{List}
@@ -10,7 +10,7 @@ use lib.ListN.{getD, take, drop}
 use Rattle.bounded.specs.Bounded.{all}
 use Rattle.sets.specs.Sets.{insert}
 use Rattle.plan.specs.Limits.{within}
-use Rattle.decimal.specs.Decimal.{fieldAt}
+use Rattle.decimal.specs.Decimal.{fieldAt, numberAt}
 use Rattle.decimal.specs.declared.Field.{Field}
 use Rattle.decimal.specs.declared.Field.the-variants.{Number, Blank, Fault}
 use Rattle.ways.specs.WayText.{wayFrontBytes}
@@ -70,3 +70,13 @@ afterCount Fault n rest = Malformed
 -- the first line of the rest of a sheet, as a way of a plan with n bookings
 unfoldable pub wayLineOf : ℕ → List ℕ → Way
 wayLineOf n rest = afterCount (countOf (take wayFrontBytes rest)) n rest
+
+-- ---- the columns of that line
+
+-- its count
+abbrev pub countIn : List ℕ → ℕ
+countIn rest = numberAt 4 1 rest
+
+-- its number j is that of the booking at index b
+unfoldable pub numberIs : List ℕ → ℕ → ℕ → Bool
+numberIs rest b j = eqb (numberAt 4 (wayFrontBytes + 4 * j) rest) (b + 1)

@@ -1,13 +1,14 @@
--- Reading the way lines of a sheet.
+-- Reading the way lines of a sheet; and what they list, by their columns alone.
 -- Assumes nothing.
+use mathlib.Core.Bool.{Bool}
 use mathlib.Core.List.{List}
 use Prim.Native.Nat.{ℕ, zero, suc, _+_}
 use lib.ListN.{drop, set, replicate}
+use Rattle.bounded.specs.Bounded.{any, sum}
 use Rattle.plan.specs.Limits.{mostWays}
 use Rattle.plan.specs.declared.Judged.the-variants.{Fine, Form, Count, Sequence}
-use Rattle.decimal.specs.Decimal.{numberAt}
 use Rattle.ways.specs.WayText.{wayBytes}
-use Rattle.ways.specs.Way.{wayLineOf}
+use Rattle.ways.specs.Way.{wayLineOf, countIn, numberIs}
 use Rattle.ways.specs.declared.Way.{Way}
 use Rattle.ways.specs.declared.Way.the-variants.{Members, Malformed, OutOfLimits, OutOfSequence}
 use Rattle.ways.specs.declared.Ways.{Ways}
@@ -29,7 +30,21 @@ waysOf n first (suc more) i at rest ws =
 unfoldable pub noWays : List ℕ
 noWays = replicate mostWays 0
 
+-- ---- what the lines list
+
+-- the rest of a sheet from the line of way w + 1 on; each line before it is as long as its count says
+unfoldable pub fromWayLine : ℕ → List ℕ → List ℕ
+fromWayLine zero rest = rest
+fromWayLine (suc w) rest = fromWayLine w (drop (wayBytes (countIn rest)) rest)
+
+-- the count on that line
+unfoldable pub countOn : List ℕ → ℕ → ℕ
+countOn rest w = countIn (fromWayLine w rest)
+
 -- the sum of the counts that so many way lines list
 unfoldable pub countsListed : ℕ → List ℕ → ℕ
-countsListed zero rest = 0
-countsListed (suc more) rest = numberAt 4 1 rest + countsListed more (drop (wayBytes (numberAt 4 1 rest)) rest)
+countsListed a rest = sum (countOn rest) a
+
+-- one of the numbers on the line of way w + 1 is that of the booking at index b
+unfoldable pub listedOn : ℕ → ℕ → List ℕ → Bool
+listedOn w b rest = any (numberIs (fromWayLine w rest) b) (countOn rest w)

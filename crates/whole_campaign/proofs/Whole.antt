@@ -10,10 +10,10 @@ use Rattle.bounded.proofs.Bools.{_&_}
 use Rattle.lines.specs.Form.{waysPlace}
 use Rattle.lines.specs.Head.{limitIn}
 use Rattle.sheet.specs.Sheet.{sheetOf}
-use Rattle.sheet.proofs.Accepted.{sheet-valid, sheet-limit, sheet-letters, sheet-desks, sheet-counts}
+use Rattle.sheet.proofs.Accepted.{sheet-valid, sheet-limit, sheet-letters, sheet-desks, sheet-counts, sheet-ways}
 use Rattle.plan.proofs.Valid.{Valid}
 use Rattle.network.specs.FromPlan.{networkOf}
-use Rattle.network.specs.Network.{wayOf}
+use Rattle.network.specs.Network.{wayOf, inWay}
 use Rattle.network.proofs.Letters.{firm-is, repeats-is}
 use Rattle.network.proofs.Desks.{desk-is}
 use Rattle.ways.specs.Ways.{countsListed}
@@ -146,7 +146,7 @@ module _ (s : List ℕ) (e : sheetPasses s ≡ true) where
 
   -- every list of calls from the first state has the guarantee
   pub from-start : (cs : List Call) → WholeCampaign s (bytesOf start) cs
-  unfolding answersTo orderAfter networkIn
+  unfolding answersTo orderAfter inWay wayOf networkIn networkOf
   from-start cs =
       let qs : List Asked = singlyOn s (bytesOf start) cs in
       let g = guaranteed qs in
@@ -160,6 +160,7 @@ module _ (s : List ℕ) (e : sheetPasses s ≡ true) where
         same-state = singles-left qs ∙ sym (left-final cs);
         demand-3 = rw (a, x) (g .demand-3);
         sizes = listed-sizes;
+        ways = λ w b h. sym (sheet-ways s (fine s e) w b h);
         kinds = λ b h. rw (sheet-letters s (fine s e) b h) (firm-is (sheetOf s .plan) valid-plan b h, repeats-is (sheetOf s .plan) valid-plan b h);
         desks = λ d b l h. rw (sheet-desks s (fine s e) b h) (desk-is (sheetOf s .plan) d b l h);
         limit = listed-limit;

@@ -11,13 +11,13 @@ use lib.Dec.{eqb}
 use lib.ListN.{drop}
 use Rattle.sets.specs.Sets.{member}
 use Rattle.plan.specs.Limits.{mostDesks}
-use Rattle.ways.specs.Ways.{countsListed}
+use Rattle.ways.specs.Ways.{countsListed, listedOn}
 use Rattle.lines.specs.Form.{waysPlace}
 use Rattle.lines.specs.Head.{limitIn}
 use Rattle.lines.specs.Bookings.{letterOn, deskOn}
 use Rattle.sheet.specs.Sheet.{sheetOf}
 use Rattle.network.specs.FromPlan.{isFirm, isRepeating}
-use Rattle.network.specs.Network.{deskOf, firm, repeats}
+use Rattle.network.specs.Network.{inWay, deskOf, firm, repeats}
 use Rattle.run.specs.State.{start}
 use Rattle.run.specs.Bytes.{bytesOf}
 use Rattle.guarantee.specs.Machine.{nextOrder}
@@ -40,6 +40,8 @@ pub record WholeCampaign (s bs : List ℕ) (cs : List Call) : Type 0 where
   pub demand-3 : Demand3 (networkIn s) (singlyOn s bs cs) (toldOn s bs cs) (askedCall s (leftOn s bs cs) nextOrder)
   -- s in that bound is the sum of the counts that the sheet's way lines list
   pub sizes : waySizes (networkIn s) ≡ countsListed (sheetOf s .plan .a) (drop (waysPlace (sheetOf s .plan .n) (sheetOf s .plan .m)) s)
+  -- by the numbers on the sheet's way lines, these are the ways' bookings
+  pub ways : (w b : ℕ) → w < sheetOf s .plan .a → inWay (networkIn s) (suc w) b ≡ listedOn w b (drop (waysPlace (sheetOf s .plan .n) (sheetOf s .plan .m)) s)
   -- by the letters on the sheet's booking lines, the firm ones in called off are P and R, and those whose refusals q counts are R and D
   pub kinds : (b : ℕ) → b < sheetOf s .plan .n → (firm (networkIn s) b ≡ isFirm (letterOn s b)) × (repeats (networkIn s) b ≡ isRepeating (letterOn s b))
   -- by the numbers on the sheet's lines, these are the desks' bookings, and this is the limit of their open matters
