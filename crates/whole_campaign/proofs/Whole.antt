@@ -160,7 +160,7 @@ module _ (s : List ℕ) (e : sheetPasses s ≡ true) where
         same-state = singles-left qs ∙ sym (left-final cs);
         demand-3 = rw (a, x) (g .demand-3);
         sizes = listed-sizes;
-        ways = λ w b h. sym (sheet-ways s (fine s e) w b h);
+        ways = (refl, λ w b h. sym (sheet-ways s (fine s e) w b h));
         kinds = λ b h. rw (sheet-letters s (fine s e) b h) (firm-is (sheetOf s .plan) valid-plan b h, repeats-is (sheetOf s .plan) valid-plan b h);
         desks = λ d b l h. rw (sheet-desks s (fine s e) b h) (desk-is (sheetOf s .plan) d b l h);
         limit = listed-limit;

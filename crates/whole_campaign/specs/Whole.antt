@@ -40,8 +40,8 @@ pub record WholeCampaign (s bs : List ℕ) (cs : List Call) : Type 0 where
   pub demand-3 : Demand3 (networkIn s) (singlyOn s bs cs) (toldOn s bs cs) (askedCall s (leftOn s bs cs) nextOrder)
   -- s in that bound is the sum of the counts that the sheet's way lines list
   pub sizes : waySizes (networkIn s) ≡ countsListed (sheetOf s .plan .a) (drop (waysPlace (sheetOf s .plan .n) (sheetOf s .plan .m)) s)
-  -- by the numbers on the sheet's way lines, these are the ways' bookings
-  pub ways : (w b : ℕ) → w < sheetOf s .plan .a → inWay (networkIn s) (suc w) b ≡ listedOn w b (drop (waysPlace (sheetOf s .plan .n) (sheetOf s .plan .m)) s)
+  -- as many ways as the sheet has, and by the numbers on their lines these are their bookings
+  pub ways : (networkIn s .a ≡ sheetOf s .plan .a) × ((w b : ℕ) → w < sheetOf s .plan .a → inWay (networkIn s) (suc w) b ≡ listedOn w b (drop (waysPlace (sheetOf s .plan .n) (sheetOf s .plan .m)) s))
   -- by the letters on the sheet's booking lines, the firm ones in called off are P and R, and those whose refusals q counts are R and D
   pub kinds : (b : ℕ) → b < sheetOf s .plan .n → (firm (networkIn s) b ≡ isFirm (letterOn s b)) × (repeats (networkIn s) b ≡ isRepeating (letterOn s b))
   -- by the numbers on the sheet's lines, these are the desks' bookings, and this is the limit of their open matters
