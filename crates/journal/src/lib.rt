@@ -1,5 +1,6 @@
-// A journal, read line after line: a reader that holds the lent bytes and how far it has come. The borrow checker covers no function over a
-// struct that holds a slice, so those are few and thin and proved by hand; the work is done by `turn_at`, and everybody else calls `next_line`.
+// A journal, read line after line: a reader that holds the lent bytes and how far it has come. Whoever reads lines keeps one for all of them.
+// The borrow checker covers no function over a struct that holds a slice: `read_on` and its caller, `lent_state::read_lines`, are proved by hand.
+// They are thin: the work is done by `turn_at`, which is covered.
 use event_lines::Line;
 ghost use mathlib.Core.Path.{_≡_};
 ghost use Rattle.journal.specs.Reading.{turnAt};
@@ -54,13 +55,4 @@ pub fn read_on<'s, 'a>(j: &'s mut Journal<'a>) -> Entry
     let turn = turn_at(j.bytes, j.at);
     j.at = turn.at;
     turn.entry
-}
-
-// Reads the line at a place of the bytes.
-pub fn next_line(bytes: &[u8], at: usize) -> Turn
-    ensures { λ r. ⌜ r ≡ turnAt (now (bytes .entry)) at ⌝ }
-{
-    let mut j = Journal { bytes, at };
-    let entry = read_on(&mut j);
-    Turn { entry, at: j.at }
 }

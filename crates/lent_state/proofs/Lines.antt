@@ -2,7 +2,7 @@
 -- Assumes nothing.
 use mathlib.Core.Path.{_≡_, refl, sym, ap, _∙_}
 use mathlib.Core.Logic.{inl, inr}
-use mathlib.Core.Bool.{Bool, true, false, _&&_, cond}
+use mathlib.Core.Bool.{Bool, true, false, _&&_}
 use mathlib.Core.List.{List}
 use Prim.Native.Nat.{ℕ, zero, suc, _+_, _-_, _/_, _≤_, _<_}
 use native.Mathlib.Nat.{sub-zero}
@@ -39,10 +39,6 @@ module _ (orders : Bool) (g : Network) (r : Run) where
     pub by-reply : orders && isOrder l ≡ false → Out g (replyTo g r l b) t after → Out g (lineBy orders g r (Given l b)) t after
     unfolding lineBy
     by-reply z h = rw z h
-
-  pub misformed-off : lineBy orders g r Misformed .taken ≡ false
-  unfolding lineBy
-  misformed-off = refl
 
   -- one that is not taken leaves the state
   pub line-stays : (line : Line) → lineBy orders g r line .taken ≡ false → lineBy orders g r line .run ≡ r

@@ -2,12 +2,13 @@
 // where the way changes. How the bookings stand is handed in and handed on, so that a line costs little.
 use event_lines::Line;
 use journal::Entry;
+use journal::Journal;
 use network::Network;
 use run::Order;
 use standing::Standing;
 ghost use mathlib.Core.Path.{_≡_};
-ghost use mathlib.Core.Bool.{_&&_};
-ghost use Prim.Native.Nat.{suc, _≤_};
+ghost use mathlib.Core.Bool.{false, _&&_};
+ghost use Prim.Native.Nat.{suc, _+_, _≤_, _<_, _^_};
 ghost use lib.Dec.{eqb};
 ghost use lib.ListN.{length};
 ghost use Rattle.event_lines.specs.Line.{isOrder};
@@ -16,7 +17,7 @@ ghost use Rattle.run.specs.Bytes.{bytesOf, runOf};
 ghost use Rattle.guarantee.specs.Machine.{replyTo};
 ghost use Rattle.lent_state.specs.Codes.{codeAfter, followed, stoodBy};
 ghost use Rattle.lent_state.specs.Due.{codeDue, orderLine};
-ghost use Rattle.lent_state.specs.Lines.{lineBy, takenOf};
+ghost use Rattle.lent_state.specs.Lines.{lineBy, takenOf, entryBy, progressBy};
 
 // Whether an order or a reply was taken, and how the bookings stand after it.
 pub struct Stood {
@@ -223,6 +224,95 @@ fn take_line(
     take_reply(g, ways, s, letter, booking, state)
 }
 
+// How far taking lines has come: how the bookings stand, how many lines are kept, what is wrong with the next one, and whether to read on.
+pub struct Progress {
+    pub standing: Standing,
+    pub kept: usize,
+    pub fault: u32,
+    pub more: bool,
+}
+
+// Taking lines ends before a line with this fault; 0 where none is left.
+fn stopped(p: Progress, fault: u32) -> Progress
+    ensures { λ r. ⌜ r ≡ record { standing = p .standing; kept = p .kept; fault = fault; more = false } ⌝ }
+{
+    let standing = p.standing;
+    Progress {
+        standing,
+        kept: p.kept,
+        fault,
+        more: false,
+    }
+}
+
+// Takes what was read: a line, or that none is left.
+fn take_entry<'n, 's>(
+    g: Network,
+    before: &'n [u64; 64],
+    ways: &'n [u64; 16],
+    desks: &'n [u64; 8],
+    p: Progress,
+    orders: bool,
+    entry: Entry,
+    state: &'s mut [u8],
+) -> Progress
+    requires { ⌜ (now before ≡ g .before) × (now ways ≡ g .way) × (now desks ≡ g .desk) × (g .n ≤ 64) × (g .a ≤ 16)
+        × (length (now state) ≡ 65) × (runOf (now state) .way ≤ 16) × (p .standing ≡ standing g (runOf (now state))) × (p .kept + 1 < 2 ^ 64) ⌝ }
+    ensures { λ t. ⌜ (t ≡ progressBy orders g (p .kept) (runOf (now (state .entry))) entry)
+        × (now (state .exit) ≡ bytesOf (entryBy orders g (runOf (now (state .entry))) entry .run)) ⌝ }
+{
+    let Entry::Whole(line) = entry else {
+        return stopped(p, 0);
+    };
+    let Line::Given(letter, booking) = line else {
+        return stopped(p, 1);
+    };
+    let s = p.standing;
+    let t = take_line(g, before, ways, desks, s, orders, letter, booking, state);
+    if !t.taken {
+        return stopped(p, 9);
+    }
+    let standing = t.standing;
+    Progress {
+        standing,
+        kept: p.kept + 1,
+        fault: 0,
+        more: true,
+    }
+}
+
+// Reads all lines with one reader, which remembers how far it has come. The reader holds a slice, so this is the crate's one function that is
+// proved by hand: it only reads, and hands what was read to `take_entry`.
+fn read_lines<'n, 'l, 's>(
+    g: Network,
+    before: &'n [u64; 64],
+    ways: &'n [u64; 16],
+    desks: &'n [u64; 8],
+    first: Progress,
+    orders: bool,
+    lines: &'l [u8],
+    state: &'s mut [u8],
+) -> Progress
+    requires { ⌜ (now before ≡ g .before) × (now ways ≡ g .way) × (now desks ≡ g .desk) × (g .n ≤ 64) × (g .a ≤ 16)
+        × (length (now state) ≡ 65) × (runOf (now state) .way ≤ 16) × (first .standing ≡ standing g (runOf (now state))) × (first .kept ≡ 0) ⌝ }
+    ensures { λ t. ⌜ (t .kept ≡ takenOf orders g (runOf (now (state .entry))) (now (lines .entry)) .kept)
+        × (t .fault ≡ takenOf orders g (runOf (now (state .entry))) (now (lines .entry)) .fault)
+        × (now (state .exit) ≡ bytesOf (takenOf orders g (runOf (now (state .entry))) (now (lines .entry)) .run)) ⌝ }
+{
+    let mut j = Journal {
+        bytes: lines,
+        at: 0,
+    };
+    let mut p = first;
+    loop {
+        let entry = journal::read_on(&mut j);
+        p = take_entry(g, before, ways, desks, p, orders, entry, state);
+        if !p.more {
+            return p;
+        }
+    }
+}
+
 // Takes whole lines one after the other, up to the first bad one: those of a block, which are replies, and those of a journal, which has orders
 // too. They share one loop, so that the compiler has one copy of a line's steps and puts them into it.
 pub fn take_lines(g: Network, s: Standing, lines: &[u8], orders: bool, state: &mut [u8]) -> Taken
@@ -234,35 +324,15 @@ pub fn take_lines(g: Network, s: Standing, lines: &[u8], orders: bool, state: &m
     let before = g.before;
     let ways = g.way;
     let desks = g.desk;
-    let mut standing = s;
-    let mut at = 0;
-    let mut kept = 0;
-    loop {
-        let turn = journal::next_line(lines, at);
-        let entry = turn.entry;
-        let Entry::Whole(line) = entry else {
-            return Taken { kept, fault: 0 };
-        };
-        let Line::Given(letter, booking) = line else {
-            return Taken { kept, fault: 1 };
-        };
-        let t = take_line(
-            g,
-            &before,
-            &ways,
-            &desks,
-            standing,
-            orders,
-            letter,
-            booking,
-            state,
-        );
-        if !t.taken {
-            return Taken { kept, fault: 9 };
-        }
-        let stands = t.standing;
-        standing = stands;
-        at = turn.at;
-        kept += 1;
+    let first = Progress {
+        standing: s,
+        kept: 0,
+        fault: 0,
+        more: true,
+    };
+    let p = read_lines(g, &before, &ways, &desks, first, orders, lines, state);
+    Taken {
+        kept: p.kept,
+        fault: p.fault,
     }
 }
