@@ -388,19 +388,12 @@ module _ {M : Type 1} (𝓤 : URA M) (H : Heap 𝓤) (A : Atoms 𝓤) (W : Given
 
   read-lines-meets : Meets 𝓤 H A read-lines.signature (WpFn 𝓤 H (𝓣 .C) (𝓣 .Λ) code.function) (read-lines.spec 𝓤 H A mem run)
   read-lines-meets =
-      walk-meets 𝓤 H A read-lines.ended stayed W (
-        goes-none 𝓤 H A W 3 (λ _. G.the-row) yes (λ κs x f. refl),
-        (
-          goes-none-ref 𝓤 H A W 3 (0 ∷ []) tt (ArS 64) yes,
-          (
-            goes-none-ref 𝓤 H A W 3 (0 ∷ []) tt (ArS 16) yes,
-            (
-              goes-none-ref 𝓤 H A W 3 (0 ∷ []) tt (ArS 8) yes,
-              (goes-none 𝓤 H A W 3 (λ _. N.the-row) yes (λ κs x f. refl), (goes-none 𝓤 H A W 3 (λ _. bool) yes (λ κs x f. refl), (goes-none-slice 𝓤 H A W 3 (1 ∷ []) tt (plain (λ _. u8)) yes, (goes-slice 𝓤 H A W 3 2 tt (plain (λ _. u8)), tt)))),
-            ),
-          ),
-        ),
-      )
+      let before = goes-none-ref 𝓤 H A W 3 (0 ∷ []) tt (ArS 64) yes in
+      let ways = goes-none-ref 𝓤 H A W 3 (0 ∷ []) tt (ArS 16) yes in
+      let desks = goes-none-ref 𝓤 H A W 3 (0 ∷ []) tt (ArS 8) yes in
+      let lines = goes-none-slice 𝓤 H A W 3 (1 ∷ []) tt (plain (λ _. u8)) yes in
+      let state = goes-slice 𝓤 H A W 3 2 tt (plain (λ _. u8)) in
+      walk-meets 𝓤 H A read-lines.ended stayed W (goes-none 𝓤 H A W 3 (λ _. G.the-row) yes (λ κs x f. refl), (before, (ways, (desks, (goes-none 𝓤 H A W 3 (λ _. N.the-row) yes (λ κs x f. refl), (goes-none 𝓤 H A W 3 (λ _. bool) yes (λ κs x f. refl), (lines, (state, tt))))))))
       (read-lines.clauses 𝓤 H A mem run) (WpFn 𝓤 H (𝓣 .C) (𝓣 .Λ) code.function) (WpFn-mono 𝓤 H (W .laws) 𝓣 code.function) read-lines-walks
 
 pub read-lines-spec : {M : Type 1} → stated.statement M
