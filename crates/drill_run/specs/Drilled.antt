@@ -28,7 +28,7 @@ unfoldable pub heardLeaves : List ℕ → List ℕ → Line → List ℕ
 heardLeaves sheet state (Given letter booking) = askedLeaves sheet state (replied letter booking)
 heardLeaves sheet state Misformed = state
 
--- some line was heard; it is empty where the input has ended
+-- some line was heard; it is empty where the input has ended or cannot be read
 abbrev pub HeardAs : List ℕ → List ℕ → Heard → List ℕ → Type 0
 HeardAs sheet state heard left = (line : List ℕ) × (heard ≡ heardOf sheet state (lineOf line)) × (left ≡ heardLeaves sheet state (lineOf line))
 

@@ -1,7 +1,6 @@
 // Accounts' program: the plan sheet from plan.txt, the fee sheet from fees.txt and the journal from journal.txt; the report is printed, or the
 // refusal as the drill prints it.
-use libc::STDERR_FILENO;
-use libc::STDOUT_FILENO;
+use files::Got;
 ghost use mathlib.Core.Path.{_≡_};
 ghost use Prim.Native.Nat.{_≤_};
 ghost use lib.ListN.{length};
@@ -30,18 +29,25 @@ fn write_settled(sheet: &[u8], fees: &[u8], journal: &[u8], text: &mut [u8]) -> 
 fn print_settled(sheet: &[u8], fees: &[u8], journal: &[u8]) {
     let mut text = [0u8; 3194];
     let n = write_settled(sheet, fees, journal, &mut text);
-    if !io::write_all(STDOUT_FILENO, &text[..n]) {
-        io::write_all(STDERR_FILENO, b"settle: the bill could not be written\n");
-    }
+    files::print(b"settle: the bill could not be written", &text[..n]);
 }
 
-// Reads the three files and prints.
+// Reads the three files and prints. Each that is missing or cannot be read is told on standard error, and then nothing is printed.
 pub fn run() {
     let mut sheet = [0u8; files::SHEET_BYTES];
     let mut fees = [0u8; FEES_BYTES];
     let mut journal = [0u8; JOURNAL_BYTES];
-    let s = files::read_file(b"plan.txt", &mut sheet);
-    let f = files::read_file(b"fees.txt", &mut fees);
-    let j = files::read_file(b"journal.txt", &mut journal);
+    let plan_read = files::read_needed(b"settle: plan.txt", b"plan.txt", &mut sheet);
+    let fees_read = files::read_needed(b"settle: fees.txt", b"fees.txt", &mut fees);
+    let journal_read = files::read_needed(b"settle: journal.txt", b"journal.txt", &mut journal);
+    let Got::Bytes(s) = plan_read else {
+        return;
+    };
+    let Got::Bytes(f) = fees_read else {
+        return;
+    };
+    let Got::Bytes(j) = journal_read else {
+        return;
+    };
     print_settled(&sheet[..s], &fees[..f], &journal[..j]);
 }

@@ -1,8 +1,7 @@
 // Planners' program: the plan sheet from plan.txt and the journal from journal.txt. The state that follows the journal is worked out, and the listing
 // of the ways before the current one is printed, or the refusal as the drill prints it.
 use charges::MOST_LINES;
-use libc::STDERR_FILENO;
-use libc::STDOUT_FILENO;
+use files::Got;
 ghost use mathlib.Core.Path.{_≡_};
 ghost use mathlib.Core.Bool.{cond};
 ghost use Prim.Native.Nat.{_/_, _≤_};
@@ -52,16 +51,20 @@ fn write_story(sheet: &[u8], journal: &[u8], text: &mut [u8]) -> usize
 fn print_story(sheet: &[u8], journal: &[u8]) {
     let mut text = [0u8; 176];
     let n = write_story(sheet, journal, &mut text);
-    if !io::write_all(STDOUT_FILENO, &text[..n]) {
-        io::write_all(STDERR_FILENO, b"story: the listing could not be written\n");
-    }
+    files::print(b"story: the listing could not be written", &text[..n]);
 }
 
-// Reads the two files and prints.
+// Reads the two files and prints. Each that is missing or cannot be read is told on standard error, and then nothing is printed.
 pub fn run() {
     let mut sheet = [0u8; files::SHEET_BYTES];
     let mut journal = [0u8; JOURNAL_BYTES];
-    let s = files::read_file(b"plan.txt", &mut sheet);
-    let j = files::read_file(b"journal.txt", &mut journal);
+    let plan_read = files::read_needed(b"story: plan.txt", b"plan.txt", &mut sheet);
+    let journal_read = files::read_needed(b"story: journal.txt", b"journal.txt", &mut journal);
+    let Got::Bytes(s) = plan_read else {
+        return;
+    };
+    let Got::Bytes(j) = journal_read else {
+        return;
+    };
     print_story(&sheet[..s], &journal[..j]);
 }

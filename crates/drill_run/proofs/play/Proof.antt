@@ -19,20 +19,23 @@ abbrev μ-loop : tie.MeasureT-loop
 loop-holds : tie.Need-loop-holds Inv-loop μ-loop
 loop-holds c = (search needs, search needs, begun)
 
+returns : tie.Need-returns Inv-loop μ-loop
+returns c = search played
+
 loop-again : tie.Need-loop-again Inv-loop μ-loop
 loop-again c = (search needs, search needs, search order-taken)
 
-returns : tie.Need-returns Inv-loop μ-loop
-returns c = search silence
+returns-2 : tie.Need-returns-2 Inv-loop μ-loop
+returns-2 c = search silence
 
 loop-again-2 : tie.Need-loop-again-2 Inv-loop μ-loop
 loop-again-2 c = (search needs, search needs, search reply-heard)
 
-returns-2 : tie.Need-returns-2 Inv-loop μ-loop
-returns-2 c = search played
-
 returns-3 : tie.Need-returns-3 Inv-loop μ-loop
 returns-3 c = search played
+
+returns-4 : tie.Need-returns-4 Inv-loop μ-loop
+returns-4 c = search played
 
 pub play-spec : {M : Type 1} → statement M
 play-spec =
@@ -44,6 +47,8 @@ play-spec =
     (search needs)
     (search needs)
     (search needs)
+    returns
+    (search needs)
     (search needs)
     (search needs)
     (search needs)
@@ -54,11 +59,11 @@ play-spec =
     (search needs)
     (search needs)
     (search needs)
-    returns
+    returns-2
     (search needs)
     loop-again-2
     (search needs)
     (search needs)
-    returns-2
+    returns-3
     (search needs)
-    returns-3)
+    returns-4)

@@ -7,10 +7,10 @@ use Rattle.drill_run.proofs.print_answer.Statement.{statement}
 use Rattle.drill_run.proofs.print_answer.Tie as tie
 
 array-share-prefix-line : tie.Need-array-share-prefix-line
-array-share-prefix-line c = answer-counts _ _ _ _ refl (c .before .write-answer .ensures .0) (c .before .write-answer .ensures .1) .0
+array-share-prefix-line c = let w = c .before .before .write-answer .ensures in answer-counts _ _ _ _ refl (w .0) (w .1) .0
 
-slice-aggregate-write-all : tie.Need-slice-aggregate-write-all
-slice-aggregate-write-all c = answer-counts _ _ _ _ refl (c .before .before .write-answer .ensures .0) (c .before .before .write-answer .ensures .1) .1
+slice-aggregate-print-2 : tie.Need-slice-aggregate-print-2
+slice-aggregate-print-2 c = let w = c .before .before .before .write-answer .ensures in answer-counts _ _ _ _ refl (w .0) (w .1) .1
 
 pub print-answer-spec : {M : Type 1} → statement M
 print-answer-spec =
@@ -18,7 +18,8 @@ print-answer-spec =
     (tie.spec
     (search needs)
     (search needs)
+    (search needs)
     array-share-prefix-line
-    slice-aggregate-write-all
+    slice-aggregate-print-2
     (search needs)
     (search needs))

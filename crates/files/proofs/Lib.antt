@@ -1,0 +1,2 @@
+-- The laws of crate `files`.
+pub mod ReadsLaws

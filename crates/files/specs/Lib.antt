@@ -1,0 +1,2 @@
+-- The definitions of crate `files`.
+pub mod Reads
