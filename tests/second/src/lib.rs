@@ -10,6 +10,7 @@ pub mod check;
 pub mod comparison;
 pub mod dice;
 pub mod drill;
+pub mod files;
 pub mod flights;
 pub mod generate;
 pub mod journal;

@@ -4,12 +4,14 @@ use std::process::ExitCode;
 
 fn main() -> ExitCode {
     let files: Vec<_> = std::env::args_os().skip(1).collect();
-    let [plan, fees, journal] = files.as_slice() else {
+    if files.len() != 3 {
         eprintln!("usage: settle-second PLANFILE FEESFILE JOURNALFILE");
         return ExitCode::from(2);
+    }
+    let read = second::files::read_all("settle-second", &files);
+    let [sheet, fees, journal] = read.as_slice() else {
+        return ExitCode::FAILURE;
     };
-    // A file that can't be read counts as empty.
-    let [sheet, fees, journal] = [plan, fees, journal].map(|file| std::fs::read(file).unwrap_or_default());
-    print!("{}", second::bill::bill(&sheet, &fees, &journal));
+    print!("{}", second::bill::bill(sheet, fees, journal));
     ExitCode::SUCCESS
 }

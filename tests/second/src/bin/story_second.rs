@@ -4,12 +4,14 @@ use std::process::ExitCode;
 
 fn main() -> ExitCode {
     let files: Vec<_> = std::env::args_os().skip(1).collect();
-    let [plan, journal] = files.as_slice() else {
+    if files.len() != 2 {
         eprintln!("usage: story-second PLANFILE JOURNALFILE");
         return ExitCode::from(2);
+    }
+    let read = second::files::read_all("story-second", &files);
+    let [sheet, journal] = read.as_slice() else {
+        return ExitCode::FAILURE;
     };
-    // A file that can't be read counts as empty.
-    let [sheet, journal] = [plan, journal].map(|file| std::fs::read(file).unwrap_or_default());
-    print!("{}", second::story::story(&sheet, &journal));
+    print!("{}", second::story::story(sheet, journal));
     ExitCode::SUCCESS
 }
