@@ -310,7 +310,9 @@ uint32_t campaign_next_order(const uint8_t *sheet, size_t sheet_len,
  * open any more, the first way that can still be flown becomes current, or
  * calling off begins. Refused with 1 to 8, 11 or 9. Hand each reply in once:
  * a copy is refused with 9 as long as the booking has no open order, but if the
- * same booking has been ordered again meanwhile, the copy answers that order.
+ * same booking has been ordered again meanwhile, the copy answers that order. So
+ * send each order with a number, its place among the orders for its booking, let
+ * the reply quote it, and discard a reply to any order but the latest.
  *
  * Replies to different bookings may come in any order, as long as no order is
  * taken between them, whichever comes first: each gets the same answer, and
