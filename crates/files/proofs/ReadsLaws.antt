@@ -83,14 +83,6 @@ pub got-bytes : (g : Got) (n : ℕ) (xs : List ℕ) → Got-counts g xs → g �
 unfolding Got-counts
 got-bytes g n xs h e = rw e at h
 
-pub by-bytes : (g : Got) (n : ℕ) → g ≡ G.Bytes n → F.Bytes n ≡ foundOf g
-unfolding foundOf
-by-bytes g n e = rw e
-
-pub by-failure : (g : Got) → g ≡ G.Failed → F.Failed ≡ foundOf g
-unfolding foundOf
-by-failure g e = rw e
-
 pub was-there : (g : Got) (f : Found) (xs : List ℕ) → f ≡ foundOf g → Got-counts g xs → Found-counts f xs
 unfolding foundOf Got-counts Found-counts
 was-there (G.Bytes n) f xs e h = rw e h
@@ -107,18 +99,6 @@ not-opened xs = tt
 pub found-bytes : (f : Found) (n : ℕ) (xs : List ℕ) → Found-counts f xs → f ≡ F.Bytes n → Counts n xs
 unfolding Found-counts
 found-bytes f n xs h e = rw e at h
-
-pub by-found : (f : Found) (n : ℕ) → f ≡ F.Bytes n → G.Bytes n ≡ neededOf f
-unfolding neededOf
-by-found f n e = rw e
-
-pub by-missing : (f : Found) → f ≡ F.Missing → G.Failed ≡ neededOf f
-unfolding neededOf
-by-missing f e = rw e
-
-pub by-unread : (f : Found) → f ≡ F.Failed → G.Failed ≡ neededOf f
-unfolding neededOf
-by-unread f e = rw e
 
 pub needed : (f : Found) (g : Got) (xs : List ℕ) → g ≡ neededOf f → Found-counts f xs → Got-counts g xs
 unfolding neededOf Got-counts Found-counts

@@ -1,18 +1,21 @@
 -- `files::as_needed` meets its contract.
 -- Assumes nothing.
-use Rattle.files.proofs.ReadsLaws.{by-found, by-missing, by-unread}
+use Rattle.files.specs.Reads.{neededOf}
 use borrow.Author.Needs.{needs}
 use Rattle.files.proofs.as_needed.Statement.{statement}
 use Rattle.files.proofs.as_needed.Tie as tie
 
 returns : tie.Need-returns
-returns c = search by-found
+unfolding neededOf
+returns c = rw (c .before .found .given .1)
 
 returns-2 : tie.Need-returns-2
-returns-2 c = search by-missing
+unfolding neededOf
+returns-2 c = rw (c .enum-told .given .1)
 
 returns-3 : tie.Need-returns-3
-returns-3 c = search by-unread
+unfolding neededOf
+returns-3 c = rw (c .enum-told2 .given .1)
 
 pub as-needed-spec : {M : Type 1} → statement M
 as-needed-spec =
