@@ -4,7 +4,7 @@ use crate::block;
 use crate::check::{self, Network};
 use crate::journal;
 use crate::passed;
-use crate::plan;
+use crate::plan::{self, Limits, OURS, THEIRS};
 use crate::refusal::Refusal;
 use crate::run::{Change, Order, Run, STATE_LENGTH};
 use crate::settle;
@@ -19,8 +19,12 @@ fn answer(result: Result<u32, Refusal>) -> u32 {
     result.unwrap_or_else(|refusal| pack(0, refusal.number, refusal.place))
 }
 
+fn judge_within(sheet: &[u8], most: &Limits) -> Result<Network, Refusal> {
+    check::check(plan::read(sheet, most)?)
+}
+
 fn judge(sheet: &[u8]) -> Result<Network, Refusal> {
-    check::check(plan::read(sheet)?)
+    judge_within(sheet, &OURS)
 }
 
 fn lent(state: &mut [u8]) -> Result<&mut [u8; STATE_LENGTH], Refusal> {
@@ -35,7 +39,7 @@ fn write(change: &Change, bytes: &mut [u8; STATE_LENGTH]) {
 /// The reader alone; 0 or its refusal.
 #[inline(never)]
 pub fn read_only(sheet: &[u8]) -> u32 {
-    answer(plan::read(sheet).map(|plan| {
+    answer(plan::read(sheet, &OURS).map(|plan| {
         std::hint::black_box(&plan);
         0
     }))
@@ -44,6 +48,11 @@ pub fn read_only(sheet: &[u8]) -> u32 {
 #[inline(never)]
 pub fn check(sheet: &[u8]) -> u32 {
     answer(judge(sheet).map(|_| pack(6, 0, 0)))
+}
+
+#[inline(never)]
+pub fn partner(sheet: &[u8]) -> u32 {
+    answer(judge_within(sheet, &THEIRS).map(|_| pack(6, 0, 0)))
 }
 
 #[inline(never)]

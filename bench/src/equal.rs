@@ -26,6 +26,7 @@ impl Compared {
 
     fn check(&mut self, sheet: &[u8]) {
         self.same(library::check(sheet), calls::check(sheet), "check", sheet);
+        self.same(library::partner(sheet), calls::partner(sheet), "the partner's check", sheet);
     }
 
     fn step(&mut self, sheet: &[u8], state: &[u8], what: &str, step: Step) {

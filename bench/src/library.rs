@@ -1,6 +1,7 @@
-//! The static library's calls that are measured, behind safe functions.
+//! The static libraries' calls that are measured, behind safe functions.
 
 extern "C" {
+    fn partner_check(sheet: *const u8, sheet_len: usize) -> u32;
     fn campaign_check(sheet: *const u8, sheet_len: usize) -> u32;
     fn campaign_start(sheet: *const u8, sheet_len: usize, state: *mut u8, state_len: usize) -> u32;
     fn campaign_next_order(sheet: *const u8, sheet_len: usize, state: *mut u8, state_len: usize) -> u32;
@@ -52,6 +53,10 @@ extern "C" {
 
 pub fn check(sheet: &[u8]) -> u32 {
     unsafe { campaign_check(sheet.as_ptr(), sheet.len()) }
+}
+
+pub fn partner(sheet: &[u8]) -> u32 {
+    unsafe { partner_check(sheet.as_ptr(), sheet.len()) }
 }
 
 pub fn start(sheet: &[u8], state: &mut [u8]) -> u32 {

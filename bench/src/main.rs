@@ -12,6 +12,7 @@ mod journal;
 mod library;
 mod listings;
 mod measure;
+mod partners;
 mod passed;
 mod plan;
 mod refusal;
@@ -246,6 +247,8 @@ fn main() {
     for series in [&by_bookings, &by_links, &by_ways] {
         compared += equal::compare(&[], series);
     }
+    let partners = sheets::for_partners(&examples);
+    compared += equal::compare(&partners[2..4], &partners);
     let endless = sheets::endless(&examples);
     compared += equal::compare_restarts(&endless);
     compared += equal::compare_settlements(&endless);
@@ -258,6 +261,7 @@ fn main() {
     println!("Each time is the best of many short rounds, each ratio the median of the rounds' ratios; next order, reply and");
     println!("passed ways are means over up to {MEASURED} calls spread over a campaign, each order and reply on a copy of its state.\n");
     print_calls(&sheets);
+    partners::print_partners(&partners);
     blocks::print_blocks(&wide);
     restart::print_restart(&endless);
     settlements::print_settlements(&endless[1..]);

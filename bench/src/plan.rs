@@ -2,9 +2,15 @@
 
 use crate::refusal::Refusal;
 
-pub const MOST_BOOKINGS: u32 = 64;
-pub const MOST_LINKS: u32 = 512;
-pub const MOST_WAYS: u32 = 16;
+/// The most bookings, links and ways that a caller takes.
+pub struct Limits {
+    pub bookings: u32,
+    pub links: u32,
+    pub ways: u32,
+}
+
+pub const OURS: Limits = Limits { bookings: 64, links: 512, ways: 16 };
+pub const THEIRS: Limits = Limits { bookings: 16, links: 512, ways: 4 };
 pub const DESKS: usize = 8;
 pub const HIGHEST_LIMIT: u32 = 64;
 
@@ -25,6 +31,7 @@ pub struct Plan {
 const FORM: u32 = 1;
 const COUNT: u32 = 2;
 const NUMBER: u32 = 3;
+const OVERSIZE: u32 = 16;
 
 /// What is left of the sheet, and the line it is on.
 struct Lines<'a> {
@@ -88,20 +95,21 @@ struct Head {
 }
 
 impl Head {
-    fn is_within_limits(&self) -> bool {
-        (1..=MOST_BOOKINGS).contains(&self.n)
-            && self.m <= MOST_LINKS
-            && (1..=MOST_WAYS).contains(&self.a)
+    fn is_within(&self, most: &Limits) -> bool {
+        (1..=most.bookings).contains(&self.n)
+            && self.m <= most.links
+            && (1..=most.ways).contains(&self.a)
             && (1..=HIGHEST_LIMIT).contains(&self.limit)
     }
 }
 
-fn read_head(lines: &mut Lines) -> Result<Head, Refusal> {
+fn read_head(lines: &mut Lines, most: &Limits) -> Result<Head, Refusal> {
     let text = lines.take(18)?;
     lines.need(text[0] == b'P' && text[17] == b'\n', FORM)?;
     let field = |at: usize| lines.field(&text[at..at + 4]);
     let head = Head { n: field(1)?, m: field(5)?, a: field(9)?, limit: field(13)? };
-    lines.need(head.is_within_limits(), COUNT)?;
+    lines.need(head.is_within(&OURS), COUNT)?;
+    lines.need(head.is_within(most), OVERSIZE)?;
     lines.line += 1;
     Ok(head)
 }
@@ -164,9 +172,10 @@ fn read_way(lines: &mut Lines, n: u32) -> Result<u64, Refusal> {
     Ok(set)
 }
 
-pub fn read(sheet: &[u8]) -> Result<Plan, Refusal> {
+#[inline]
+pub fn read(sheet: &[u8], most: &Limits) -> Result<Plan, Refusal> {
     let mut lines = Lines { rest: sheet, line: 1 };
-    let Head { n, m, a, limit } = read_head(&mut lines)?;
+    let Head { n, m, a, limit } = read_head(&mut lines, most)?;
     let mut plan = Plan {
         bookings: n as usize,
         ways: a as usize,

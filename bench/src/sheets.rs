@@ -172,6 +172,17 @@ pub fn compared_only(examples: &str) -> Vec<Sheet> {
     ]
 }
 
+/// Within the partner's limits, up to a row at them with a link from each booking to each later one; and
+/// full size, which is over them.
+pub fn for_partners(examples: &str) -> Vec<Sheet> {
+    let mut sheets = main_sheets(examples);
+    sheets.truncate(3);
+    let named = [("row (16, 120, 4)", row(16, 120, 4)), ("unlinked (16, 0, 4)", row(16, 0, 4))];
+    let theirs = named.map(|(name, bytes)| Sheet { name: name.to_string(), bytes });
+    sheets.splice(2..2, theirs);
+    sheets
+}
+
 /// The longest text: every way has every booking, so it reads but is refused with 7.
 pub fn longest_text() -> Sheet {
     let ways: Vec<Vec<usize>> = vec![(1..=64).collect(); 16];

@@ -9,9 +9,11 @@ use lib.ListN.{length}
 use lib.Dec.{eqb}
 use borrow.Author.Tests.{eq-eqb, ne-eqb, eqb-true, not-true, not-false}
 use Rattle.bounded.proofs.Bools.{which, and-l, and-r}
+use Rattle.plan.specs.Limits.{ours}
 use Rattle.plan.specs.Judging.{isFine}
+use Rattle.plan.specs.declared.Limits.{Limits}
 use Rattle.plan.specs.declared.Judged.{Judged}
-use Rattle.sheet.specs.Sheet.{sheetOf}
+use Rattle.sheet.specs.Sheet.{sheetWithin, sheetOf}
 use Rattle.sheet.proofs.Accepted.{sheet-valid}
 use Rattle.network.specs.declared.Network.{Network}
 use Rattle.verdict.specs.declared.Verdict.{Verdict}
@@ -28,42 +30,46 @@ use Rattle.guarantee.specs.Machine.{Asked, answer, after}
 use Rattle.guarantee.specs.Calls.{callBits, callBytes}
 use Rattle.calls.specs.declared.Checked.{Checked}
 use Rattle.calls.specs.declared.Campaign.{Campaign}
-use Rattle.calls.specs.Calls.{networkIn, passes, sheetPasses, judgedBits, checkCall, noNetwork, judgedAs, checkedOf, startCall, startLeaves, askedCall, askedLeaves, inOrder, refusedWith, turnedAway, lookedAt, takenUp}
+use Rattle.calls.specs.Calls.{networkWithin, networkIn, passes, sheetPasses, judgedBits, checkWithin, noNetwork, judgedAs, checkedWithin, checkedOf, startCall, startLeaves, askedCall, askedLeaves, inOrder, refusedWith, turnedAway, lookedAt, takenUp}
 
--- the counts of a plan that reads are within the limits
-pub fine-bounds : (s : List ℕ) → isFine (sheetOf s .judged) ≡ true → (networkIn s .n ≤ 64) × (networkIn s .a ≤ 16)
-unfolding networkIn networkOf
-fine-bounds s e = let v = sheet-valid s e in (v .counts .bookings, v .counts .ways)
+-- the counts of a plan that reads are within the limits of every sheet
+pub fine-bounds : (most : Limits) (s : List ℕ) → isFine (sheetWithin most s .judged) ≡ true → (networkWithin most s .n ≤ 64) × (networkWithin most s .a ≤ 16)
+unfolding networkWithin networkOf
+fine-bounds most s e = let v = sheet-valid most s e in (v .counts .bookings, v .counts .ways)
 
 -- ---- the sheet, read and checked
 
-module _ (s : List ℕ) where
-  pub checked-refused : (j : Judged) (t : Bool) (x : ℕ) (g : Network) → j ≡ sheetOf s .judged → t ≡ isFine j → not t ≡ true → x ≡ judgedBits j → g ≡ noNetwork
-      → _≡_ {A = Checked} (record { passes = false; bits = x; network = g }) (checkedOf s)
-  unfolding checkedOf
+module _ (most : Limits) (s : List ℕ) where
+  pub checked-refused : (j : Judged) (t : Bool) (x : ℕ) (g : Network) → j ≡ sheetWithin most s .judged → t ≡ isFine j → not t ≡ true → x ≡ judgedBits j → g ≡ noNetwork
+      → _≡_ {A = Checked} (record { passes = false; bits = x; network = g }) (checkedWithin most s)
+  unfolding checkedWithin
   checked-refused j t x g e f n q eg = let o : isFine j ≡ false = sym f ∙ not-true t n in rw (← e, o, q, eg)
 
-  pub checked-read : (g : Network) (v : Verdict) (x : ℕ) (t : Bool) → isFine (sheetOf s .judged) ≡ true → g ≡ networkIn s → v ≡ check g → x ≡ checkBits v → t ≡ passes v
-      → _≡_ {A = Checked} (record { passes = t; bits = x; network = g }) (checkedOf s)
-  unfolding checkedOf
+  pub checked-read : (g : Network) (v : Verdict) (x : ℕ) (t : Bool) → isFine (sheetWithin most s .judged) ≡ true → g ≡ networkWithin most s → v ≡ check g → x ≡ checkBits v → t ≡ passes v
+      → _≡_ {A = Checked} (record { passes = t; bits = x; network = g }) (checkedWithin most s)
+  unfolding checkedWithin
   checked-read g v x t f eg ev ex et = rw (f, et, ex, ev, eg)
 
+  -- what was worked out has the answer of check
+  pub bits-is : (c : Checked) → c ≡ checkedWithin most s → c .bits ≡ checkWithin most s
+  unfolding checkedWithin checkWithin
+  bits-is c e = ap (λ (x : Checked). x .bits) e ∙ go (isFine (sheetWithin most s .judged))
+    where
+      go : (f : Bool) → cond f (judgedAs (check (networkWithin most s)) (networkWithin most s)) (record { passes = false; bits = judgedBits (sheetWithin most s .judged); network = noNetwork }) .bits
+          ≡ cond f (checkBits (check (networkWithin most s))) (judgedBits (sheetWithin most s .judged))
+      go true = refl
+      go false = refl
+
+-- ---- our sheet
+
+module _ (s : List ℕ) where
   module _ (c : Checked) (e : c ≡ checkedOf s) where
     passes-is : c .passes ≡ sheetPasses s
-    unfolding checkedOf sheetPasses
+    unfolding checkedWithin sheetPasses
     passes-is = ap (λ (x : Checked). x .passes) e ∙ go (isFine (sheetOf s .judged))
       where
         go : (f : Bool) → cond f (judgedAs (check (networkIn s)) (networkIn s)) (record { passes = false; bits = judgedBits (sheetOf s .judged); network = noNetwork }) .passes
             ≡ f && passes (check (networkIn s))
-        go true = refl
-        go false = refl
-
-    pub bits-is : c .bits ≡ checkCall s
-    unfolding checkedOf checkCall
-    bits-is = ap (λ (x : Checked). x .bits) e ∙ go (isFine (sheetOf s .judged))
-      where
-        go : (f : Bool) → cond f (judgedAs (check (networkIn s)) (networkIn s)) (record { passes = false; bits = judgedBits (sheetOf s .judged); network = noNetwork }) .bits
-            ≡ cond f (checkBits (check (networkIn s))) (judgedBits (sheetOf s .judged))
         go true = refl
         go false = refl
 
@@ -74,7 +80,7 @@ module _ (s : List ℕ) where
 
       pub start-refused : (bs : List ℕ) → (c .bits ≡ startCall s bs) × (bs ≡ startLeaves s bs)
       unfolding startCall startLeaves
-      start-refused bs = (rw fails bits-is, rw fails refl)
+      start-refused bs = (rw fails (bits-is ours s c e), rw fails refl)
 
     -- the sheet passes
     module _ (n : not (c .passes) ≡ false) where
@@ -86,11 +92,11 @@ module _ (s : List ℕ) where
       reads = and-l (isFine (sheetOf s .judged)) _ holds
 
       pub network-is : c .network ≡ networkIn s
-      unfolding checkedOf
+      unfolding checkedWithin
       network-is = ap (λ (x : Checked). x .network) e ∙ rw reads refl
 
       pub bounded : (c .network .n ≤ 64) × (c .network .a ≤ 16)
-      bounded = rw network-is (fine-bounds s reads)
+      bounded = rw network-is (fine-bounds ours s reads)
 
       pub start-short : (bs : List ℕ) → (length bs ≡ 65 → ⊥) → (x : ℕ) → x ≡ pack 0 11 0 → (x ≡ startCall s bs) × (bs ≡ startLeaves s bs)
       unfolding startCall startLeaves unsound
@@ -121,7 +127,7 @@ module _ (s : List ℕ) where
     -- the sheet is refused
     pub away : not (c .passes) ≡ true → (bs : List ℕ) (t : Campaign) → t ≡ turnedAway (c .bits) → t ≡ takenUp s bs
     unfolding takenUp inOrder refusedWith
-    away n bs t et = rw (fails n, et, bits-is)
+    away n bs t et = rw (fails n, et, bits-is ours s c e)
 
 -- ---- a step on a campaign
 
@@ -181,7 +187,7 @@ module _ (s bs : List ℕ) (c : Campaign) (e : c ≡ takenUp s bs) where
     pub ready : (c .network .n ≤ 64) × (c .network .a ≤ 16) × (c .run .way ≤ 16) × (c .standing ≡ standing (c .network) (c .run))
     unfolding sheetPasses soundBytes
     ready =
-        let b = fine-bounds s (and-l (isFine (sheetOf s .judged)) _ passing) in
+        let b = fine-bounds ours s (and-l (isFine (sheetOf s .judged)) _ passing) in
         rw taken-is (b .0, b .1, sound-way (networkIn s) (runOf bs) (and-r (eqb (length bs) 65) _ sound-state) (b .1), refl)
 
     pub asked-done : (q : Asked) (x : ℕ) → x ≡ answer (c .network) (c .run) q → (bytes : List ℕ) → bytes ≡ bytesOf (after (c .network) (c .run) q)

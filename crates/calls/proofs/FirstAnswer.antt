@@ -10,6 +10,7 @@ use lib.ListN.{length}
 use borrow.Author.Tests.{eq-eqb}
 use Rattle.bounded.proofs.Bools.{which, clash}
 use Rattle.plan.specs.Judging.{isFine, judgedPlace}
+use Rattle.plan.specs.Limits.{ours}
 use Rattle.plan.specs.declared.Judged.{Judged}
 use Rattle.plan.proofs.RecordLaws.{refusal-few}
 use Rattle.sheet.specs.Sheet.{sheetOf}
@@ -21,10 +22,10 @@ use Rattle.verdict.proofs.Places.{verdict-small}
 use Rattle.run.specs.State.{start}
 use Rattle.run.specs.Bytes.{bytesOf}
 use Rattle.guarantee.specs.Answers.{pack, checkBits}
-use Rattle.calls.specs.Calls.{networkIn, passes, sheetPasses, judgedBits, checkCall, startCall, startLeaves}
+use Rattle.calls.specs.Calls.{networkIn, passes, sheetPasses, judgedBits, checkWithin, checkCall, startCall, startLeaves}
 use Rattle.calls.proofs.Exits.{fine-bounds}
 
-judged-low : (j : Judged) → judgedPlace j < 65536 → judgedBits j < 16777216
+pub judged-low : (j : Judged) → judgedPlace j < 65536 → judgedBits j < 16777216
 unfolding judgedBits pack
 judged-low j h = omega (arith, refusal-few j)
 
@@ -38,13 +39,13 @@ verdict-low (Repeated w) h e = omega arith
 verdict-low (Stranding w b) h e = omega arith
 
 pub refused-low : (s : List ℕ) → sheetPasses s ≡ false → checkCall s < 16777216
-unfolding sheetPasses checkCall
+unfolding sheetPasses checkWithin
 refused-low s e = elim (which (isFine (sheetOf s .judged))) [
   | inl f ↦
-      (let b = fine-bounds s f in
+      (let b = fine-bounds ours s f in
       let n : passes (check (networkIn s)) ≡ false = rw f at e in
       rw f (verdict-low (check (networkIn s)) (verdict-small (networkIn s) (b .0) (b .1)) n))
-  | inr f ↦ rw f (judged-low (sheetOf s .judged) (sheet-small s))
+  | inr f ↦ rw f (judged-low (sheetOf s .judged) (sheet-small ours s))
 ]
 
 module _ (s bs : List ℕ) (l : length bs ≡ 65) (x : ℕ) (e : x ≡ startCall s bs) where

@@ -10,6 +10,7 @@ use lib.Dec.{eqb}
 use lib.ListN.{length, length-drop}
 use borrow.Author.Tests.{eqb-true}
 use Rattle.bounded.proofs.Bools.{which, and-l, and-r}
+use Rattle.plan.specs.Limits.{ours}
 use Rattle.plan.specs.Judging.{isFine}
 use Rattle.sheet.specs.Sheet.{sheetOf}
 use Rattle.sheet.proofs.Accepted.{sheet-valid}
@@ -22,7 +23,7 @@ use Rattle.run.proofs.Facts.{Sound}
 use Rattle.run.proofs.SoundTest.{sound-e}
 use Rattle.guarantee.specs.Answers.{pack, checkBits, unsound}
 use Rattle.guarantee.proofs.Plans.{plan-passes}
-use Rattle.calls.specs.Calls.{networkIn, passes, sheetPasses, checkCall, inOrder, refusedWith}
+use Rattle.calls.specs.Calls.{networkWithin, networkIn, passes, sheetPasses, checkWithin, checkCall, inOrder, refusedWith}
 use Rattle.calls.proofs.FirstAnswer.{refused-low}
 
 -- ---- a sheet that passes
@@ -38,12 +39,12 @@ module _ (s : List ℕ) (e : sheetPasses s ≡ true) where
 
   -- what the check ensures of the sheet's network
   pub passing : Passes (networkIn s)
-  unfolding networkIn
-  passing = plan-passes (sheetOf s .plan) (sheet-valid s fine) checked
+  unfolding networkWithin
+  passing = plan-passes (sheetOf s .plan) (sheet-valid ours s fine) checked
 
   -- check accepts it
   pub accepted : checkCall s ≡ pack 6 0 0
-  unfolding checkCall checkBits verdictNumber
+  unfolding checkWithin checkBits verdictNumber
   accepted = rw fine (go (check (networkIn s)) checked)
     where
       go : (v : Verdict) → verdictNumber v ≡ 0 → checkBits v ≡ pack 6 0 0

@@ -3,3 +3,4 @@ pub mod Places
 pub mod Exits
 pub mod FirstAnswer
 pub mod InOrder
+pub mod Within

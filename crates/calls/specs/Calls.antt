@@ -6,9 +6,11 @@ use mathlib.Core.List.{List}
 use Prim.Native.Nat.{ℕ, suc, _+_}
 use lib.Dec.{eqb}
 use lib.ListN.{length, replicate}
+use Rattle.plan.specs.Limits.{ours}
 use Rattle.plan.specs.Judging.{isFine, judgedRefusal, judgedPlace}
+use Rattle.plan.specs.declared.Limits.{Limits}
 use Rattle.plan.specs.declared.Judged.{Judged}
-use Rattle.sheet.specs.Sheet.{sheetOf}
+use Rattle.sheet.specs.Sheet.{sheetWithin, sheetOf}
 use Rattle.network.specs.declared.Network.{Network}
 use Rattle.verdict.specs.declared.Verdict.{Verdict}
 use Rattle.network.specs.FromPlan.{networkOf}
@@ -24,9 +26,12 @@ use Rattle.guarantee.specs.Calls.{callBits, callBytes}
 use Rattle.calls.specs.declared.Checked.{Checked}
 use Rattle.calls.specs.declared.Campaign.{Campaign}
 
--- the plan that a sheet holds, as the rules see it
-unfoldable pub networkIn : List ℕ → Network
-networkIn s = networkOf (sheetOf s .plan)
+-- the plan that a sheet holds, as the rules see it: to a caller with such limits, and to us
+unfoldable pub networkWithin : Limits → List ℕ → Network
+networkWithin most s = networkOf (sheetWithin most s .plan)
+
+abbrev pub networkIn : List ℕ → Network
+networkIn s = networkWithin ours s
 
 -- the sheet passes: refusals 1 to 8 are all absent
 unfoldable pub passes : Verdict → Bool
@@ -35,12 +40,17 @@ passes v = eqb (verdictNumber v) 0
 unfoldable pub sheetPasses : List ℕ → Bool
 sheetPasses s = isFine (sheetOf s .judged) && passes (check (networkIn s))
 
--- check: refusals 1 to 3 with their line, then 4 to 8, or accepted
+-- the sheet is refused as it is read: 1 to 3, or 16, with their line
 unfoldable pub judgedBits : Judged → ℕ
 judgedBits j = pack 0 (judgedRefusal j) (judgedPlace j)
 
-unfoldable pub checkCall : List ℕ → ℕ
-checkCall s = cond (isFine (sheetOf s .judged)) (checkBits (check (networkIn s))) (judgedBits (sheetOf s .judged))
+-- check, for a caller with such limits: these, then 4 to 8, or accepted
+unfoldable pub checkWithin : Limits → List ℕ → ℕ
+checkWithin most s = cond (isFine (sheetWithin most s .judged)) (checkBits (check (networkWithin most s))) (judgedBits (sheetWithin most s .judged))
+
+-- and for us
+abbrev pub checkCall : List ℕ → ℕ
+checkCall s = checkWithin ours s
 
 -- what is worked out of a sheet before anything else; a sheet that does not read has no network
 unfoldable pub noNetwork : Network
@@ -49,10 +59,13 @@ noNetwork = record { n = 0; a = 0; way = replicate 16 0; before = replicate 64 0
 abbrev pub judgedAs : Verdict → Network → Checked
 judgedAs v g = record { passes = passes v; bits = checkBits v; network = g }
 
-unfoldable pub checkedOf : List ℕ → Checked
-checkedOf s =
-    cond (isFine (sheetOf s .judged)) (judgedAs (check (networkIn s)) (networkIn s))
-    (record { passes = false; bits = judgedBits (sheetOf s .judged); network = noNetwork })
+unfoldable pub checkedWithin : Limits → List ℕ → Checked
+checkedWithin most s =
+    cond (isFine (sheetWithin most s .judged)) (judgedAs (check (networkWithin most s)) (networkWithin most s))
+    (record { passes = false; bits = judgedBits (sheetWithin most s .judged); network = noNetwork })
+
+abbrev pub checkedOf : List ℕ → Checked
+checkedOf s = checkedWithin ours s
 
 -- start: it looks at no old byte of the state, only at how many there are
 unfoldable pub startCall : List ℕ → List ℕ → ℕ

@@ -1,6 +1,7 @@
 // What the calls for C do: check, start, next order and reply on lent bytes, each answered in 32 bits. Crate campaign exports them.
 use network::Network;
 use plan::Judged;
+use plan::Limits;
 use run::Order;
 use run::Replied;
 use run::Run;
@@ -14,7 +15,7 @@ ghost use Rattle.verdict.specs.Check.{verdictPlace};
 ghost use Rattle.run.specs.State.{standing};
 ghost use Rattle.guarantee.specs.Answers.{pack, orderBits, place9, replyBits, checkBits};
 ghost use Rattle.guarantee.specs.Machine.{nextOrder, replied, replyTo};
-ghost use Rattle.calls.specs.Calls.{noNetwork, passes, judgedBits, checkedOf, orderKind, orderBooking, orderWay, orderPlace, checkCall, startCall, startLeaves, askedCall, askedLeaves, turnedAway, takenUp};
+ghost use Rattle.calls.specs.Calls.{noNetwork, passes, judgedBits, checkedWithin, checkedOf, orderKind, orderBooking, orderWay, orderPlace, checkCall, startCall, startLeaves, askedCall, askedLeaves, turnedAway, takenUp};
 
 // What is worked out of a sheet before anything else: whether it passes, what check answers, and what the rules look at.
 pub struct Checked {
@@ -158,13 +159,13 @@ fn no_network() -> Network
     }
 }
 
-// Reads a sheet and checks its plan.
-pub fn judge_sheet(sheet: &[u8]) -> Checked
-    ensures { λ r. ⌜ r ≡ checkedOf (now (sheet .entry)) ⌝ }
+// Reads a sheet for a caller with such limits and checks its plan.
+pub fn judge_within(sheet: &[u8], most: Limits) -> Checked
+    ensures { λ r. ⌜ r ≡ checkedWithin most (now (sheet .entry)) ⌝ }
 {
     let mut from = [0u8; 512];
     let mut to = [0u8; 512];
-    let read = sheet::read_outline(sheet, &mut from, &mut to);
+    let read = sheet::read_outline(sheet, most, &mut from, &mut to);
     let judged = read.judged;
     if !plan::is_fine(judged) {
         let bits = judged_bits(judged);
@@ -185,6 +186,13 @@ pub fn judge_sheet(sheet: &[u8]) -> Checked
         bits,
         network,
     }
+}
+
+// Reads a sheet of ours and checks its plan.
+pub fn judge_sheet(sheet: &[u8]) -> Checked
+    ensures { λ r. ⌜ r ≡ checkedOf (now (sheet .entry)) ⌝ }
+{
+    judge_within(sheet, plan::ours())
 }
 
 // ---- sheets

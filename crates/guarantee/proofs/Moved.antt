@@ -22,7 +22,7 @@ use Rattle.run.specs.declared.Ordered.{Ordered}
 use Rattle.run.specs.declared.Replied.{Replied}
 use Rattle.run.proofs.Facts.{Sound}
 use Rattle.run.proofs.Cases.{NextCase, blocked, gives, busy, asks, pends, over, flies, next-case, return-facts, request-facts, ReplyCase, misfit, confirmed as yes′, refused, again as again′, returned as returned′, kept, reply-case}
-use Rattle.guarantee.specs.Answers.{pack, kindOf, placeOf, orderBits, place9, replyBits}
+use Rattle.guarantee.specs.Answers.{pack, kindOf, refusalOf, placeOf, orderBits, place9, replyBits}
 use Rattle.guarantee.specs.Machine.{Asked, nextOrder, replied, replyTo, answer, after}
 use Rattle.guarantee.specs.Counted.{sends, accepts, confirmed, returned, ordered, answered, event, again}
 use Rattle.guarantee.proofs.Numbers.{small-9}
@@ -36,6 +36,10 @@ use Rattle.guarantee.proofs.Potential.{weight, potential, potential-put
 pub kind-pack : (k f p : ℕ) → f < 256 → p < 65536 → kindOf (pack k f p) ≡ k
 unfolding kindOf pack
 kind-pack k f p h l = omega arith
+
+pub refusal-pack : (k f p : ℕ) → f < 256 → p < 65536 → refusalOf (pack k f p) ≡ f
+unfolding refusalOf pack
+refusal-pack k f p h l = omega arith
 
 pub place-pack : (k f p : ℕ) → p < 65536 → placeOf (pack k f p) ≡ p
 unfolding placeOf pack

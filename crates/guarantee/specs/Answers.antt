@@ -15,6 +15,9 @@ pack kind refusal place = kind * 16777216 + refusal * 65536 + place
 unfoldable pub kindOf : ℕ → ℕ
 kindOf x = x / 16777216
 
+unfoldable pub refusalOf : ℕ → ℕ
+refusalOf x = x / 65536 % 256
+
 unfoldable pub placeOf : ℕ → ℕ
 placeOf x = x % 65536
 

@@ -27,7 +27,7 @@ place-small i = by-cond (λ (p : ℕ). p < 65536) {t = leb i 65535} {a = i} {b =
 module _ (s j bs : List ℕ) (c : Checked) (e : c ≡ checkedOf s) where
   pub refused : not (c .passes) ≡ true → (c .bits ≡ restartCall s j bs) × (bs ≡ restartLeaves s j bs)
   unfolding restartCall restarts restartLeaves
-  refused n = let f = fails s c e n in (rw f (bits-is s c e), rw f)
+  refused n = let f = fails s c e n in (rw f (bits-is _ s c e), rw f)
 
   module _ (n : not (c .passes) ≡ false) where
     pub short : (length bs ≡ 65 → ⊥) → (x : ℕ) → x ≡ pack 0 11 0 → (x ≡ restartCall s j bs) × (bs ≡ restartLeaves s j bs)

@@ -12,45 +12,47 @@ use Rattle.decimal.specs.declared.Field.{Field}
 use Rattle.decimal.specs.declared.Field.the-variants.{Number}
 use Rattle.decimal.proofs.Bytes.{same-refl, same-ne}
 use Rattle.decimal.proofs.Fields.{NoNumber, fault-in, number-is, field-then}
-use Rattle.plan.specs.Limits.{limits}
+use Rattle.plan.specs.Limits.{counted, limits}
+use Rattle.plan.specs.declared.Limits.{Limits}
 use Rattle.lines.specs.Form.{isFramed, headBytes}
 use Rattle.lines.specs.Head.{headText, bookingCountIn, linkCountIn, wayCountIn, limitIn, isHead, countsOf, headOf}
-use Rattle.lines.specs.declared.Head.the-variants.{Counts, Malformed, OutOfLimits}
+use Rattle.lines.specs.declared.Head.{Head}
+use Rattle.lines.specs.declared.Head.the-variants.{Counts, Malformed, OutOfLimits, Oversize}
 use Rattle.lines.proofs.FormLaws.{Framed, framed, unframed, begun, ended-at}
 
 -- ---- of another form
 
-module _ (line : List ℕ) where
+module _ (most : Limits) (line : List ℕ) where
   text : List ℕ
   text = headText (bookingCountIn line) (linkCountIn line) (wayCountIn line) (limitIn line)
 
-  not-text : (line ≡ text → ⊥) → Malformed ≡ headOf line
+  not-text : (line ≡ text → ⊥) → Malformed ≡ headOf most line
   unfolding headOf isHead text
   not-text h = rw (same-ne line (headText (bookingCountIn line) (linkCountIn line) (wayCountIn line) (limitIn line)) h)
 
-  pub no-frame : (b : Bool) → b ≡ isFramed 80 headBytes line → not b ≡ true → Malformed ≡ headOf line
+  pub no-frame : (b : Bool) → b ≡ isFramed 80 headBytes line → not b ≡ true → Malformed ≡ headOf most line
   unfolding text headText columns columnsTo isFramed
   no-frame b e q = not-text (unframed 80 headBytes line text b e q refl)
 
-  pub no-bookings : (f : Field) → f ≡ fieldAt 4 1 line → NoNumber f → Malformed ≡ headOf line
+  pub no-bookings : (f : Field) → f ≡ fieldAt 4 1 line → NoNumber f → Malformed ≡ headOf most line
   unfolding text headText columns columnsTo
   no-bookings f e g = not-text (fault-in 4 1 line f e text g refl)
 
-  pub no-links : (f : Field) → f ≡ fieldAt 4 5 line → NoNumber f → Malformed ≡ headOf line
+  pub no-links : (f : Field) → f ≡ fieldAt 4 5 line → NoNumber f → Malformed ≡ headOf most line
   unfolding text headText columns columnsTo
   no-links f e g = not-text (fault-in 4 5 line f e text g refl)
 
-  pub no-ways : (f : Field) → f ≡ fieldAt 4 9 line → NoNumber f → Malformed ≡ headOf line
+  pub no-ways : (f : Field) → f ≡ fieldAt 4 9 line → NoNumber f → Malformed ≡ headOf most line
   unfolding text headText columns columnsTo
   no-ways f e g = not-text (fault-in 4 9 line f e text g refl)
 
-  pub no-limit : (f : Field) → f ≡ fieldAt 4 13 line → NoNumber f → Malformed ≡ headOf line
+  pub no-limit : (f : Field) → f ≡ fieldAt 4 13 line → NoNumber f → Malformed ≡ headOf most line
   unfolding text headText columns columnsTo
   no-limit f e g = not-text (fault-in 4 13 line f e text g refl)
 
 -- ---- of this form
 
-module _ (line : List ℕ) (b : Bool) (p : b ≡ isFramed 80 headBytes line) (q : not b ≡ false) (f g h i : Field) (n m a limit : ℕ)
+module _ (most : Limits) (line : List ℕ) (b : Bool) (p : b ≡ isFramed 80 headBytes line) (q : not b ≡ false) (f g h i : Field) (n m a limit : ℕ)
     (e1 : f ≡ fieldAt 4 1 line) (n1 : f ≡ Number n) (e2 : g ≡ fieldAt 4 5 line) (n2 : g ≡ Number m) (e3 : h ≡ fieldAt 4 9 line) (n3 : h ≡ Number a)
     (e4 : i ≡ fieldAt 4 13 line) (n4 : i ≡ Number limit) where
   whole : line ≡ headText n m a limit
@@ -65,20 +67,28 @@ module _ (line : List ℕ) (b : Bool) (p : b ≡ isFramed 80 headBytes line) (q 
       let w : drop (headBytes - 1) line ≡ 10 ∷ [] = ended-at 80 (headBytes - 1) line r in
       s ∙ rw (t, u, v, o, w)
 
-  formed : headOf line ≡ countsOf n m a limit
+  pub formed : (r : Head) → r ≡ countsOf most n m a limit → r ≡ headOf most line
   unfolding headOf isHead
-  formed =
+  formed r k =
       let x : n ≡ bookingCountIn line = number-is 4 1 line f e1 n n1 in
       let y : m ≡ linkCountIn line = number-is 4 5 line g e2 m n2 in
       let z : a ≡ wayCountIn line = number-is 4 9 line h e3 a n3 in
       let o : limit ≡ limitIn line = number-is 4 13 line i e4 limit n4 in
       let s : sameBytes line (headText n m a limit) ≡ true = rw (← whole) (same-refl line) in
-      rw (← x, ← y, ← z, ← o, s)
+      rw (← x, ← y, ← z, ← o, s) k
 
-  pub out : (k : Bool) → k ≡ limits n m a limit → not k ≡ true → OutOfLimits ≡ headOf line
-  unfolding countsOf
-  out k e r = rw (formed, ← e, not-true k r)
+-- ---- its numbers
 
-  pub counts : (k : Bool) → k ≡ limits n m a limit → not k ≡ false → Counts n m a limit ≡ headOf line
+module _ (most : Limits) (n m a limit : ℕ) (k : Bool) (e : k ≡ limits n m a limit) where
+  pub out : not k ≡ true → OutOfLimits ≡ countsOf most n m a limit
   unfolding countsOf
-  counts k e r = rw (formed, ← e, not-false k r)
+  out q = rw (← e, not-true k q)
+
+  module _ (q : not k ≡ false) (t : Bool) (f : t ≡ counted most n m a) where
+    pub over : not t ≡ true → Oversize ≡ countsOf most n m a limit
+    unfolding countsOf
+    over r = rw (← e, not-false k q, ← f, not-true t r)
+
+    pub counts : not t ≡ false → Counts n m a limit ≡ countsOf most n m a limit
+    unfolding countsOf
+    counts r = rw (← e, not-false k q, ← f, not-false t r)

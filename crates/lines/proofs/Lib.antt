@@ -9,3 +9,4 @@ pub mod Lengths
 pub mod RoundTrip
 pub mod AllLines
 pub mod Places
+pub mod OverHead

@@ -11,7 +11,8 @@ use Rattle.bounded.proofs.Bools.{clash}
 use Rattle.decimal.specs.Decimal.{columns, columnsTo, sameBytes}
 use Rattle.decimal.proofs.Bytes.{same-refl, same-eq}
 use Rattle.decimal.proofs.Fields.{number-in}
-use Rattle.plan.specs.Limits.{mostDesks, isKind, isDesk, limits, inSequence}
+use Rattle.plan.specs.Limits.{mostDesks, isKind, isDesk, counted, limits, inSequence}
+use Rattle.plan.specs.declared.Limits.{Limits}
 use Rattle.plan.proofs.LimitLaws.{Limited, limited, desk-known, sequenced}
 use Rattle.lines.specs.Head.{headText, bookingCountIn, linkCountIn, wayCountIn, limitIn, isHead, countsOf, headOf}
 use Rattle.lines.specs.Booking.{bookingText, numberIn, kindIn, deskIn, isBooking, entryOf, bookingOf}
@@ -41,39 +42,42 @@ module _ (n m a limit : ℕ) where
   unfolding headText columns columnsTo
   its-limit rest h = number-in 4 13 limit (headText n m a limit ++ rest) h refl
 
-  pub head-read : limits n m a limit ≡ true → headOf (headText n m a limit) ≡ H.Counts n m a limit
+  pub head-read : (most : Limits) → limits n m a limit ≡ true → counted most n m a ≡ true → headOf most (headText n m a limit) ≡ H.Counts n m a limit
   unfolding headOf isHead countsOf
-  head-read e =
+  head-read most e c =
       let l : Limited n m a limit = limited n m a limit e in
       let o : limitIn (headText n m a limit) ≡ limit = rw append-nil at (its-limit [] (omega arith)) in
-      rw (first (omega arith), second (omega arith), third (omega arith), o, same-refl (headText n m a limit), e)
+      rw (first (omega arith), second (omega arith), third (omega arith), o, same-refl (headText n m a limit), e, c)
 
-pub record HeadIs (line : List ℕ) (n m a limit : ℕ) : Type 0 where
+pub record HeadIs (most : Limits) (line : List ℕ) (n m a limit : ℕ) : Type 0 where
   pub text : line ≡ headText n m a limit
   pub fit : limits n m a limit ≡ true
+  pub taken : counted most n m a ≡ true
 
-pub head-accepted : (line : List ℕ) (n m a limit : ℕ) → headOf line ≡ H.Counts n m a limit → HeadIs line n m a limit
+pub head-accepted : (most : Limits) (line : List ℕ) (n m a limit : ℕ) → headOf most line ≡ H.Counts n m a limit → HeadIs most line n m a limit
 unfolding headOf isHead countsOf
-head-accepted line n m a limit =
+head-accepted most line n m a limit =
     go (sameBytes line (headText (bookingCountIn line) (linkCountIn line) (wayCountIn line) (limitIn line)))
-    (limits (bookingCountIn line) (linkCountIn line) (wayCountIn line) (limitIn line)) (same-eq _ _) refl
+    (limits (bookingCountIn line) (linkCountIn line) (wayCountIn line) (limitIn line))
+    (counted most (bookingCountIn line) (linkCountIn line) (wayCountIn line)) (same-eq _ _) refl refl
   where
-    go : (b c : Bool) → (b ≡ true → line ≡ headText (bookingCountIn line) (linkCountIn line) (wayCountIn line) (limitIn line))
-        → limits (bookingCountIn line) (linkCountIn line) (wayCountIn line) (limitIn line) ≡ c
-        → cond b (cond c (H.Counts (bookingCountIn line) (linkCountIn line) (wayCountIn line) (limitIn line)) H.OutOfLimits) H.Malformed ≡ H.Counts n m a limit
-        → HeadIs line n m a limit
-    go true true h l e =
+    go : (b c d : Bool) → (b ≡ true → line ≡ headText (bookingCountIn line) (linkCountIn line) (wayCountIn line) (limitIn line))
+        → limits (bookingCountIn line) (linkCountIn line) (wayCountIn line) (limitIn line) ≡ c → counted most (bookingCountIn line) (linkCountIn line) (wayCountIn line) ≡ d
+        → cond b (cond c (cond d (H.Counts (bookingCountIn line) (linkCountIn line) (wayCountIn line) (limitIn line)) H.Oversize) H.OutOfLimits) H.Malformed ≡ H.Counts n m a limit
+        → HeadIs most line n m a limit
+    go true true true h l t e =
         let x : bookingCountIn line ≡ n = cc in
         let y : linkCountIn line ≡ m = cc in
         let z : wayCountIn line ≡ a = cc in
         let o : limitIn line ≡ limit = cc in
-        record { text = h refl ∙ rw (x, y, z, o); fit = rw (x, y, z, o) at l }
-    go true false h l e = clash true refl cc
-    go false c h l e = clash true refl cc
+        record { text = h refl ∙ rw (x, y, z, o); fit = rw (x, y, z, o) at l; taken = rw (x, y, z) at t }
+    go true true false h l t e = clash true refl cc
+    go true false d h l t e = clash true refl cc
+    go false c d h l t e = clash true refl cc
 
 -- the numbers of a head that was read are within the limits
-pub head-limits : (line : List ℕ) (h : Head) (n m a limit : ℕ) → h ≡ headOf line → h ≡ H.Counts n m a limit → Limited n m a limit
-head-limits line h n m a limit e g = limited n m a limit (head-accepted line n m a limit (sym e ∙ g) .fit)
+pub head-limits : (most : Limits) (line : List ℕ) (h : Head) (n m a limit : ℕ) → h ≡ headOf most line → h ≡ H.Counts n m a limit → Limited n m a limit
+head-limits most line h n m a limit e g = limited n m a limit (head-accepted most line n m a limit (sym e ∙ g) .fit)
 
 -- ---- a booking
 

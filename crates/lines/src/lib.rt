@@ -1,12 +1,13 @@
 // The lines of a fixed width of a plan sheet: the head, the bookings, the links. Each is read from a part of the sheet.
 use decimal::Field;
 use plan::Judged;
+use plan::Limits;
 ghost use mathlib.Core.Path.{_≡_};
 ghost use Prim.Native.Nat.{_≤_, _<_};
 ghost use lib.ListN.{drop};
 ghost use Rattle.plan.specs.Limits.{mostBookings, mostLinks};
 ghost use Rattle.lines.specs.Form.{linksPlace, waysPlace, isFramed};
-ghost use Rattle.lines.specs.Head.{headOf};
+ghost use Rattle.lines.specs.Head.{countsOf, headOf};
 ghost use Rattle.lines.specs.Booking.{bookingOf};
 ghost use Rattle.lines.specs.Link.{linkOf};
 ghost use Rattle.lines.specs.Bookings.{bookingsOf, noBookings};
@@ -26,6 +27,7 @@ pub enum Head {
     Counts(usize, usize, usize, usize),
     Malformed,
     OutOfLimits,
+    Oversize,
 }
 
 // What a booking's line holds: the letter of its kind and the number of its desk, or why it is refused.
@@ -79,9 +81,22 @@ pub fn is_framed(line: &[u8], letter: u8, w: usize) -> bool
     line[w - 1] == 10
 }
 
-// Reads the head line.
-pub fn read_head(line: &[u8]) -> Head
-    ensures { λ r. ⌜ r ≡ headOf (now (line .entry)) ⌝ }
+// The numbers of a head line, if they are within the limits of every sheet, and then within those of the caller.
+fn counts_of(most: Limits, n: usize, m: usize, a: usize, limit: usize) -> Head
+    ensures { λ r. ⌜ r ≡ countsOf most n m a limit ⌝ }
+{
+    if !plan::in_limits(n, m, a, limit) {
+        return Head::OutOfLimits;
+    }
+    if !plan::are_counted(most, n, m, a) {
+        return Head::Oversize;
+    }
+    Head::Counts(n, m, a, limit)
+}
+
+// Reads the head line, for a caller with such limits.
+pub fn read_head(line: &[u8], most: Limits) -> Head
+    ensures { λ r. ⌜ r ≡ headOf most (now (line .entry)) ⌝ }
 {
     if !is_framed(line, b'P', HEAD_BYTES) {
         return Head::Malformed;
@@ -98,10 +113,7 @@ pub fn read_head(line: &[u8]) -> Head
     let Field::Number(limit) = decimal::field_at(line, 13, 4) else {
         return Head::Malformed;
     };
-    if !plan::in_limits(n, m, a, limit) {
-        return Head::OutOfLimits;
-    }
-    Head::Counts(n, m, a, limit)
+    counts_of(most, n, m, a, limit)
 }
 
 // Reads the line of booking number x.

@@ -8,7 +8,8 @@ use native.Mathlib.Omega.{arith}
 use lib.Dec.{eqb, leb, ltb}
 use borrow.Author.Tests.{leb-true, le-leb, eqb-true, ltb-true}
 use Rattle.bounded.proofs.Bools.{and-l, and-r, _&_, or-cases, went}
-use Rattle.plan.specs.Limits.{mostBookings, mostLinks, mostWays, mostMatters, mostDesks, C, P, R, D, isKind, isDesk, within, counted, limits, rises, inSequence}
+use Rattle.plan.specs.Limits.{mostBookings, mostLinks, mostWays, mostMatters, mostDesks, C, P, R, D, isKind, isDesk, within, ours, counted, limits, rises, inSequence}
+use Rattle.plan.specs.declared.Limits.{Limits}
 
 -- ---- from lo to hi
 
@@ -33,6 +34,36 @@ within-hi-by lo x hi b e q = within-hi lo x hi (went e q)
 
 -- ---- the counts
 
+-- of a plan that a caller with such limits takes
+pub record Counted (most : Limits) (n m a : ℕ) : Type 0 where
+  pub some-booking : 1 ≤ n
+  pub bookings : n ≤ most .bookings
+  pub links : m ≤ most .links
+  pub some-way : 1 ≤ a
+  pub ways : a ≤ most .ways
+
+module _ (most : Limits) (n m a : ℕ) where
+  pub counted-e : counted most n m a ≡ true → Counted most n m a
+  unfolding counted
+  counted-e e =
+      let l : within 1 n (most .bookings) ≡ true = and-l (within 1 n (most .bookings)) _ e in
+      let r : within 0 m (most .links) && within 1 a (most .ways) ≡ true = and-r (within 1 n (most .bookings)) _ e in
+      let w : within 1 a (most .ways) ≡ true = and-r (within 0 m (most .links)) _ r in
+      record {
+        some-booking = within-lo 1 n (most .bookings) l;
+        bookings = within-hi 1 n (most .bookings) l;
+        links = within-hi 0 m (most .links) (and-l (within 0 m (most .links)) _ r);
+        some-way = within-lo 1 a (most .ways) w;
+        ways = within-hi 1 a (most .ways) w;
+      }
+
+  pub counted-i : Counted most n m a → counted most n m a ≡ true
+  unfolding counted
+  counted-i l =
+      within-i 1 n (most .bookings) (l .some-booking) (l .bookings)
+      & within-i 0 m (most .links) (omega arith) (l .links)
+      & within-i 1 a (most .ways) (l .some-way) (l .ways)
+
 pub record Limited (n m a limit : ℕ) : Type 0 where
   pub some-booking : 1 ≤ n
   pub bookings : n ≤ mostBookings
@@ -43,19 +74,16 @@ pub record Limited (n m a limit : ℕ) : Type 0 where
   pub matters : limit ≤ mostMatters
 
 pub limited : (n m a limit : ℕ) → limits n m a limit ≡ true → Limited n m a limit
-unfolding limits counted
+unfolding limits ours
 limited n m a limit e =
-    let c : within 1 n mostBookings && (within 0 m mostLinks && within 1 a mostWays) ≡ true = and-l _ (within 1 limit mostMatters) e in
-    let o : within 1 limit mostMatters ≡ true = and-r (counted mostBookings mostLinks mostWays n m a) _ e in
-    let l : within 1 n mostBookings ≡ true = and-l (within 1 n mostBookings) _ c in
-    let r : within 0 m mostLinks && within 1 a mostWays ≡ true = and-r (within 1 n mostBookings) _ c in
-    let w : within 1 a mostWays ≡ true = and-r (within 0 m mostLinks) _ r in
+    let c : Counted ours n m a = counted-e ours n m a (and-l (counted ours n m a) _ e) in
+    let o : within 1 limit mostMatters ≡ true = and-r (counted ours n m a) _ e in
     record {
-      some-booking = within-lo 1 n mostBookings l;
-      bookings = within-hi 1 n mostBookings l;
-      links = within-hi 0 m mostLinks (and-l (within 0 m mostLinks) _ r);
-      some-way = within-lo 1 a mostWays w;
-      ways = within-hi 1 a mostWays w;
+      some-booking = c .some-booking;
+      bookings = c .bookings;
+      links = c .links;
+      some-way = c .some-way;
+      ways = c .ways;
       some-matter = within-lo 1 limit mostMatters o;
       matters = within-hi 1 limit mostMatters o;
     }
@@ -65,11 +93,9 @@ pub limited-by : (n m a limit : ℕ) (x : Bool) → x ≡ limits n m a limit →
 limited-by n m a limit x e q = limited n m a limit (went e q)
 
 pub limited-i : (n m a limit : ℕ) → Limited n m a limit → limits n m a limit ≡ true
-unfolding limits counted
+unfolding limits ours
 limited-i n m a limit l =
-    (within-i 1 n mostBookings (l .some-booking) (l .bookings)
-    & within-i 0 m mostLinks (omega arith) (l .links)
-    & within-i 1 a mostWays (l .some-way) (l .ways))
+    counted-i ours n m a (record { some-booking = l .some-booking; bookings = l .bookings; links = l .links; some-way = l .some-way; ways = l .ways })
     & within-i 1 limit mostMatters (l .some-matter) (l .matters)
 
 -- ---- desks

@@ -2,7 +2,7 @@
 -- Assumes nothing.
 use mathlib.Core.Path.{_≡_, sym, refl}
 use mathlib.Core.Bool.{Bool, true, false, not}
-use Prim.Native.Nat.{_≤_}
+use Prim.Native.Nat.{ℕ, _≤_}
 use native.Mathlib.Omega.{arith}
 use borrow.Author.Tests.{not-true, not-false}
 use Rattle.bounded.proofs.Bools.{and-l, clash, went}
@@ -10,7 +10,7 @@ use Rattle.plan.specs.Limits.{limits}
 use Rattle.plan.specs.Record.{countsFit, entriesFit, recordOf}
 use Rattle.plan.specs.declared.Plan.{Plan}
 use Rattle.plan.specs.declared.Judgement.the-variants.{Fine, Count, Sequence}
-use Rattle.plan.specs.Judging.{isFine, judgedRefusal}
+use Rattle.plan.specs.Judging.{isFine, judgedRefusal, judgedPlace}
 use Rattle.plan.specs.declared.Judged.{Judged}
 use Rattle.plan.specs.declared.Judged.the-variants as J
 use Rattle.plan.proofs.LimitLaws.{Limited, limited}
@@ -45,9 +45,19 @@ fine-is J.Fine e = refl
 fine-is (J.Form l) e = clash true refl (sym e)
 fine-is (J.Count l) e = clash true refl (sym e)
 fine-is (J.Sequence l) e = clash true refl (sym e)
+fine-is (J.Oversize l) e = clash true refl (sym e)
 
-pub refusal-few : (j : Judged) → judgedRefusal j ≤ 3
+pub refusal-few : (j : Judged) → judgedRefusal j ≤ 16
 refusal-few J.Fine = omega arith
 refusal-few (J.Form l) = omega arith
 refusal-few (J.Count l) = omega arith
 refusal-few (J.Sequence l) = omega arith
+refusal-few (J.Oversize l) = omega arith
+
+-- judged by its own lines: it is refused with 1, 2 or 3, if it is, and not past line m
+pub record Upto (m : ℕ) (j : Judged) : Type 0 where
+  pub place : judgedPlace j ≤ m
+  pub few : judgedRefusal j ≤ 3
+
+pub further : {m : ℕ} {j : Judged} (k : ℕ) → m ≤ k → Upto m j → Upto k j
+further k h u = record { place = omega (arith, h, u .place); few = u .few }

@@ -14,7 +14,7 @@ use Rattle.bounded.proofs.Bools.{clash, and-l, and-r, _&_}
 use Rattle.bounded.proofs.Tests.{all-i, all-e}
 use Rattle.sets.specs.Sets.{sizeOf}
 use Rattle.sets.proofs.Gather.{size-le}
-use Rattle.plan.specs.Limits.{mostDesks, isKind, limits}
+use Rattle.plan.specs.Limits.{mostDesks, isKind, ours, counted, limits}
 use Rattle.plan.specs.Record.{bookingAt, linkAt, countAt, withinAt, countsFit, entriesFit, recordOf}
 use Rattle.plan.specs.declared.Plan.{Plan}
 use Rattle.plan.specs.declared.Judgement.the-variants.{Fine, Count, Sequence}
@@ -91,6 +91,11 @@ module _ (p : Plan) (c : countsFit p ≡ true) (e : entriesFit p ≡ true) where
 
 pub valid : (p : Plan) → recordOf p ≡ Fine → Valid p
 valid p e = facts p (fine-counts p e) (fine-entries p e)
+
+-- so we take it
+pub fine-counted : (p : Plan) → recordOf p ≡ Fine → counted ours (p .n) (p .m) (p .a) ≡ true
+unfolding limits
+fine-counted p e = let l = valid p e .counts in and-l (counted ours (p .n) (p .m) (p .a)) _ (limited-i (p .n) (p .m) (p .a) (p .limit) l)
 
 -- the counts of a record that was judged fine
 pub fine-limited : (p : Plan) (r : Judgement) → r ≡ recordOf p → r ≡ Fine → Limited (p .n) (p .m) (p .a) (p .limit)

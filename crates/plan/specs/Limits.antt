@@ -4,6 +4,7 @@
 use mathlib.Core.Bool.{Bool, _&&_, _||_}
 use Prim.Native.Nat.{ℕ}
 use lib.Dec.{eqb, leb, ltb}
+use Rattle.plan.specs.declared.Limits.{Limits}
 
 -- at most so many bookings, links and ways. These are the limits that are judged; that sets, arrays and states have 64 places, and arrays of
 -- ways 16, is written as a number where they are defined
@@ -43,13 +44,17 @@ isKind k = eqb k C || (eqb k P || (eqb k R || eqb k D))
 unfoldable pub within : ℕ → ℕ → ℕ → Bool
 within lo x hi = leb lo x && leb x hi
 
--- 1 to bs bookings, 0 to ls links, 1 to ws ways
-unfoldable pub counted : ℕ → ℕ → ℕ → ℕ → ℕ → ℕ → Bool
-counted bs ls ws n m a = within 1 n bs && (within 0 m ls && within 1 a ws)
+-- our limits, which are those of every sheet and of every record: refusal 2 goes by these, whoever asks
+unfoldable pub ours : Limits
+ours = record { bookings = mostBookings; links = mostLinks; ways = mostWays }
+
+-- a caller with such limits takes n bookings, m links and a ways: at least one booking and one way, and of each at most its limit
+unfoldable pub counted : Limits → ℕ → ℕ → ℕ → Bool
+counted most n m a = within 1 n (most .bookings) && (within 0 m (most .links) && within 1 a (most .ways))
 
 -- the counts of a plan, and what it lets each desk have open, are within the limits
 unfoldable pub limits : ℕ → ℕ → ℕ → ℕ → Bool
-limits n m a limit = counted mostBookings mostLinks mostWays n m a && within 1 limit mostMatters
+limits n m a limit = counted ours n m a && within 1 limit mostMatters
 
 -- d is the number of a desk
 unfoldable pub isDesk : ℕ → Bool

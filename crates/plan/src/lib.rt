@@ -5,7 +5,7 @@ ghost use Prim.Native.Nat.{_^_, _≤_};
 ghost use lib.Dec.{ltb};
 ghost use Rattle.bounded.specs.Bounded.{all};
 ghost use Rattle.sets.specs.Sets.{sizeOf};
-ghost use Rattle.plan.specs.Limits.{mostBookings, mostLinks, mostWays, isKind, isDesk, within, counted, limits, rises, inSequence};
+ghost use Rattle.plan.specs.Limits.{mostBookings, mostLinks, mostWays, isKind, isDesk, within, ours, counted, limits, rises, inSequence};
 ghost use Rattle.plan.specs.Judging.{isFine, judgedRefusal, judgedPlace};
 ghost use Rattle.plan.specs.Outline.{planOf};
 ghost use Rattle.plan.specs.Record.{bookingAt, linkAt, countAt, withinAt, countsFit, entriesFit, recordOf};
@@ -35,6 +35,13 @@ pub struct Outline {
     pub way: [u64; 16],
 }
 
+// How many bookings, links and ways a caller takes at most.
+pub struct Limits {
+    pub bookings: usize,
+    pub links: usize,
+    pub ways: usize,
+}
+
 // What a record is: fine, or refused for a count, or for an entry that is out of sequence, out of range or no kind.
 pub enum Judgement {
     Fine,
@@ -48,6 +55,7 @@ pub enum Judged {
     Form(usize),
     Count(usize),
     Sequence(usize),
+    Oversize(usize),
 }
 
 // Whether no line was refused.
@@ -59,6 +67,7 @@ pub fn is_fine(j: Judged) -> bool
         Judged::Form(_) => false,
         Judged::Count(_) => false,
         Judged::Sequence(_) => false,
+        Judged::Oversize(_) => false,
     }
 }
 
@@ -71,6 +80,7 @@ pub fn judged_refusal(j: Judged) -> u32
         Judged::Form(_) => 1,
         Judged::Count(_) => 2,
         Judged::Sequence(_) => 3,
+        Judged::Oversize(_) => 16,
     }
 }
 
@@ -83,6 +93,7 @@ pub fn judged_place(j: Judged) -> usize
         Judged::Form(l) => l,
         Judged::Count(l) => l,
         Judged::Sequence(l) => l,
+        Judged::Oversize(l) => l,
     }
 }
 
@@ -112,24 +123,35 @@ pub fn is_within(lo: usize, x: usize, hi: usize) -> bool
     x <= hi
 }
 
-// Whether the counts n, m and a are at most bs, ls and ws, with at least one booking and one way.
-fn are_counted(bs: usize, ls: usize, ws: usize, n: usize, m: usize, a: usize) -> bool
-    ensures { λ r. ⌜ r ≡ counted bs ls ws n m a ⌝ }
+// The limits of every sheet and of every record.
+pub fn ours() -> Limits
+    ensures { λ r. ⌜ r ≡ ours ⌝ }
 {
-    if !is_within(1, n, bs) {
+    Limits {
+        bookings: 64,
+        links: 512,
+        ways: 16,
+    }
+}
+
+// Whether a caller with such limits takes n bookings, m links and a ways.
+pub fn are_counted(most: Limits, n: usize, m: usize, a: usize) -> bool
+    ensures { λ r. ⌜ r ≡ counted most n m a ⌝ }
+{
+    if !is_within(1, n, most.bookings) {
         return false;
     }
-    if !is_within(0, m, ls) {
+    if !is_within(0, m, most.links) {
         return false;
     }
-    is_within(1, a, ws)
+    is_within(1, a, most.ways)
 }
 
 // Whether the counts of bookings, links and ways, and what a desk may have open, are within the limits of a plan.
 pub fn in_limits(n: usize, m: usize, a: usize, limit: usize) -> bool
     ensures { λ r. ⌜ r ≡ limits n m a limit ⌝ }
 {
-    if !are_counted(64, 512, 16, n, m, a) {
+    if !are_counted(ours(), n, m, a) {
         return false;
     }
     is_within(1, limit, 64)

@@ -1,6 +1,7 @@
 -- What an accepted sheet is: its plan is valid (`sheet-valid`), and its bytes are, to the last, the sheet of that plan (`sheet-accepted`). So its lines
 -- have the plan's limit (`sheet-limit`), the letters of its kinds (`sheet-letters`), the numbers of its desks (`sheet-desks`), the counts of its
--- ways (`sheet-counts`) and the numbers of their bookings (`sheet-ways`).
+-- ways (`sheet-counts`) and the numbers of their bookings (`sheet-ways`). All this whatever the caller's limits are; and its counts are within
+-- them (`sheet-counted`).
 -- Assumes nothing.
 use Prim.Native.Nat.{ℕ, _+_, _*_, _^_, _<_}
 use mathlib.Core.Path.{_≡_, refl, sym, ap, _∙_}
@@ -15,12 +16,14 @@ use borrow.Author.Tests.{eqb-true}
 use Rattle.bounded.specs.Bounded.{sum}
 use Rattle.bounded.proofs.Bools.{clash}
 use Rattle.sets.specs.Sets.{member}
+use Rattle.plan.specs.Limits.{counted}
 use Rattle.plan.specs.Judging.{isFine}
+use Rattle.plan.specs.declared.Limits.{Limits}
 use Rattle.plan.specs.Record.{recordOf}
 use Rattle.plan.specs.declared.Judged.{Judged}
-use Rattle.plan.specs.declared.Judged.the-variants.{Fine, Form, Count}
+use Rattle.plan.specs.declared.Judged.the-variants.{Fine, Form, Count, Oversize}
 use Rattle.plan.specs.declared.Judgement.the-variants as R
-use Rattle.plan.proofs.LimitLaws.{Limited}
+use Rattle.plan.proofs.LimitLaws.{Counted, counted-e, Limited, limited}
 use Rattle.plan.proofs.Valid.{Valid, valid, fine-i}
 use Rattle.plan.proofs.RecordLaws.{fine-is}
 use Rattle.lines.specs.Form.{headBytes, bookingBytes, linkBytes, linksPlace, waysPlace}
@@ -30,13 +33,13 @@ use Rattle.lines.specs.Bookings.{bookingsText, letterOn, deskOn, noBookings}
 use Rattle.lines.specs.Links.{linksText, noLinks}
 use Rattle.lines.specs.declared.Head.{Head}
 use Rattle.lines.specs.declared.Head.the-variants as H
-use Rattle.lines.proofs.RoundTrip.{its-limit, head-accepted, head-limits}
+use Rattle.lines.proofs.RoundTrip.{its-limit, HeadIs, head-accepted}
 use Rattle.lines.proofs.AllLines.{letter-at, desk-at, BookingsAre, bookings-accepted, LinksAre, links-accepted}
 use Rattle.lines.proofs.Lengths.{no-bookings-length, no-links-length}
 use Rattle.ways.specs.WayText.{waysText, waysLength, sizeAt}
 use Rattle.ways.specs.Ways.{countsListed, listedOn}
 use Rattle.ways.proofs.WaysRoundTrip.{Read, all-accepted}
-use Rattle.sheet.specs.Sheet.{bookingsIn, linksIn, waysIn, planIn, refusedOf, endOf, bodyOf, sheetOf}
+use Rattle.sheet.specs.Sheet.{bookingsIn, linksIn, waysIn, planIn, refusedOf, endOf, bodyOf, sheetWithin}
 use Rattle.sheet.specs.Text.{sheetText}
 use Rattle.sheet.specs.declared.Sheet.{Sheet}
 
@@ -47,57 +50,68 @@ record Stages (s : List ℕ) : Type 0 where
   m : ℕ
   a : ℕ
   limit : ℕ
-  head : headOf (take headBytes s) ≡ H.Counts n m a limit
+  first : take headBytes s ≡ headText n m a limit
+  fits : Limited n m a limit
   bookings : bookingsIn n s .judged ≡ Fine
   links : linksIn n m s .judged ≡ Fine
   ways : waysIn n m a s .judged ≡ Fine
   end : waysIn n m a s .next ≡ length s
-  read : sheetOf s ≡ record { judged = Fine; plan = planIn n m a limit s }
 
-module _ (s : List ℕ) where
-  body-stages : (n m a limit : ℕ) → headOf (take headBytes s) ≡ H.Counts n m a limit → (x y z w : Bool) → isFine (bookingsIn n s .judged) ≡ x → isFine (linksIn n m s .judged) ≡ y
+-- and what it is to a caller that takes so much
+record Found (most : Limits) (s : List ℕ) : Type 0 where
+  stages : Stages s
+  taken : counted most (stages .n) (stages .m) (stages .a) ≡ true
+  read : sheetWithin most s ≡ record { judged = Fine; plan = planIn (stages .n) (stages .m) (stages .a) (stages .limit) s }
+
+module _ (most : Limits) (s : List ℕ) where
+  body-found : (n m a limit : ℕ) → HeadIs most (take headBytes s) n m a limit → (x y z w : Bool) → isFine (bookingsIn n s .judged) ≡ x → isFine (linksIn n m s .judged) ≡ y
       → isFine (waysIn n m a s .judged) ≡ z → eqb (waysIn n m a s .next) (length s) ≡ w
-      → sheetOf s
+      → sheetWithin most s
       ≡ cond x
       (cond y
       (cond z (cond w (record { judged = Fine; plan = planIn n m a limit s }) (refusedOf (Form (n + m + a + 2)))) (refusedOf (waysIn n m a s .judged)))
       (refusedOf (linksIn n m s .judged)))
       (refusedOf (bookingsIn n s .judged))
-      → isFine (sheetOf s .judged) ≡ true → Stages s
+      → isFine (sheetWithin most s .judged) ≡ true → Found most s
   unfolding refusedOf
-  body-stages n m a limit h true true true true k l v t e q = record {
-    n = n;
-    m = m;
-    a = a;
-    limit = limit;
-    head = h;
-    bookings = fine-is (bookingsIn n s .judged) k;
-    links = fine-is (linksIn n m s .judged) l;
-    ways = fine-is (waysIn n m a s .judged) v;
-    end = eqb-true _ _ t;
+  body-found n m a limit h true true true true k l v t e q = record {
+    stages = record {
+      n = n;
+      m = m;
+      a = a;
+      limit = limit;
+      first = h .text;
+      fits = limited n m a limit (h .fit);
+      bookings = fine-is (bookingsIn n s .judged) k;
+      links = fine-is (linksIn n m s .judged) l;
+      ways = fine-is (waysIn n m a s .judged) v;
+      end = eqb-true _ _ t;
+    };
+    taken = h .taken;
     read = e;
   }
-  body-stages n m a limit h true true true false k l v t e q = clash true refl (sym (rw e at q))
-  body-stages n m a limit h true true false w k l v t e q = clash (isFine (waysIn n m a s .judged)) (rw e at q) v
-  body-stages n m a limit h true false z w k l v t e q = clash (isFine (linksIn n m s .judged)) (rw e at q) l
-  body-stages n m a limit h false y z w k l v t e q = clash (isFine (bookingsIn n s .judged)) (rw e at q) k
+  body-found n m a limit h true true true false k l v t e q = clash true refl (sym (rw e at q))
+  body-found n m a limit h true true false w k l v t e q = clash (isFine (waysIn n m a s .judged)) (rw e at q) v
+  body-found n m a limit h true false z w k l v t e q = clash (isFine (linksIn n m s .judged)) (rw e at q) l
+  body-found n m a limit h false y z w k l v t e q = clash (isFine (bookingsIn n s .judged)) (rw e at q) k
 
-  stages : isFine (sheetOf s .judged) ≡ true → Stages s
-  unfolding sheetOf bodyOf endOf refusedOf
-  stages = go (headOf (take headBytes s)) refl
+  found : isFine (sheetWithin most s .judged) ≡ true → Found most s
+  unfolding sheetWithin bodyOf endOf refusedOf
+  found = go (headOf most (take headBytes s)) refl
     where
-      go : (h : Head) → headOf (take headBytes s) ≡ h → isFine (sheetOf s .judged) ≡ true → Stages s
+      go : (h : Head) → headOf most (take headBytes s) ≡ h → isFine (sheetWithin most s .judged) ≡ true → Found most s
       go (H.Counts n m a limit) e q =
-          body-stages n m a limit e (isFine (bookingsIn n s .judged)) (isFine (linksIn n m s .judged)) (isFine (waysIn n m a s .judged))
+          body-found n m a limit (head-accepted most (take headBytes s) n m a limit e) (isFine (bookingsIn n s .judged)) (isFine (linksIn n m s .judged)) (isFine (waysIn n m a s .judged))
           (eqb (waysIn n m a s .next) (length s)) refl refl refl refl (rw e) q
-      go H.Malformed e q = let f : sheetOf s ≡ refusedOf (Form 1) = rw e in clash true refl (sym (rw f at q))
-      go H.OutOfLimits e q = let f : sheetOf s ≡ refusedOf (Count 1) = rw e in clash true refl (sym (rw f at q))
+      go H.Malformed e q = let f : sheetWithin most s ≡ refusedOf (Form 1) = rw e in clash true refl (sym (rw f at q))
+      go H.OutOfLimits e q = let f : sheetWithin most s ≡ refusedOf (Count 1) = rw e in clash true refl (sym (rw f at q))
+      go H.Oversize e q = let f : sheetWithin most s ≡ refusedOf (Oversize 1) = rw e in clash true refl (sym (rw f at q))
 
 -- ---- the parts of an accepted sheet
 
 module _ (s : List ℕ) (t : Stages s) where
   fits : Limited (t .n) (t .m) (t .a) (t .limit)
-  fits = head-limits (take headBytes s) (headOf (take headBytes s)) (t .n) (t .m) (t .a) (t .limit) refl (t .head)
+  fits = t .fits
 
   the-bookings : BookingsAre (t .n) 0 (drop headBytes s) noBookings noBookings (bookingsIn (t .n) s .kind) (bookingsIn (t .n) s .desk)
   unfolding bookingsIn
@@ -149,7 +163,7 @@ module _ (s : List ℕ) (t : Stages s) where
   after-bookings = sym (take-append-drop (bookingBytes * t .n) (drop headBytes s)) ∙ rw (the-bookings .text, drop-drop (bookingBytes * t .n) headBytes s)
 
   after-head : s ≡ headText (t .n) (t .m) (t .a) (t .limit) ++ drop headBytes s
-  after-head = sym (take-append-drop headBytes s) ∙ rw (head-accepted (take headBytes s) (t .n) (t .m) (t .a) (t .limit) (t .head) .text)
+  after-head = sym (take-append-drop headBytes s) ∙ rw (t .first)
 
   bytes-are : s ≡ sheetText (planIn (t .n) (t .m) (t .a) (t .limit) s)
   unfolding sheetText planIn
@@ -181,45 +195,53 @@ module _ (s : List ℕ) (t : Stages s) where
 
 -- ---- the theorems
 
-module _ (s : List ℕ) (e : isFine (sheetOf s .judged) ≡ true) where
-  read-plan : planIn (stages s e .n) (stages s e .m) (stages s e .a) (stages s e .limit) s ≡ sheetOf s .plan
-  read-plan = sym (ap (λ (r : Sheet). r .plan) (stages s e .read))
+module _ (most : Limits) (s : List ℕ) (e : isFine (sheetWithin most s .judged) ≡ true) where
+  told : Found most s
+  told = found most s e
+
+  read-plan : planIn (told .stages .n) (told .stages .m) (told .stages .a) (told .stages .limit) s ≡ sheetWithin most s .plan
+  read-plan = sym (ap (λ (r : Sheet). r .plan) (told .read))
 
   -- the plan of an accepted sheet passes the record's test
-  pub sheet-fine : recordOf (sheetOf s .plan) ≡ R.Fine
-  sheet-fine = rw (← read-plan) (plan-fine s (stages s e))
+  pub sheet-fine : recordOf (sheetWithin most s .plan) ≡ R.Fine
+  sheet-fine = rw (← read-plan) (plan-fine s (told .stages))
 
   -- and so has no refusal 2 and no refusal 3
-  pub sheet-valid : Valid (sheetOf s .plan)
-  sheet-valid = valid (sheetOf s .plan) sheet-fine
+  pub sheet-valid : Valid (sheetWithin most s .plan)
+  sheet-valid = valid (sheetWithin most s .plan) sheet-fine
+
+  -- its counts are within the caller's limits
+  pub sheet-counted : Counted most (sheetWithin most s .plan .n) (sheetWithin most s .plan .m) (sheetWithin most s .plan .a)
+  unfolding planIn
+  sheet-counted = rw (← read-plan) (counted-e most (told .stages .n) (told .stages .m) (told .stages .a) (told .taken))
 
   -- an accepted sheet is the sheet of its plan
-  pub sheet-accepted : sheetText (sheetOf s .plan) ≡ s
-  sheet-accepted = sym (bytes-are s (stages s e) ∙ ap sheetText read-plan)
+  pub sheet-accepted : sheetText (sheetWithin most s .plan) ≡ s
+  sheet-accepted = sym (bytes-are s (told .stages) ∙ ap sheetText read-plan)
 
   -- its head has the limit of its desks
-  pub sheet-limit : limitIn s ≡ sheetOf s .plan .limit
+  pub sheet-limit : limitIn s ≡ sheetWithin most s .plan .limit
   unfolding planIn
-  sheet-limit = rw (← read-plan) (limit-is s (stages s e))
+  sheet-limit = rw (← read-plan) (limit-is s (told .stages))
 
   -- its booking lines have the letters of its kinds
-  pub sheet-letters : (b : ℕ) → b < sheetOf s .plan .n → letterOn s b ≡ getD (sheetOf s .plan .kind) b 0
+  pub sheet-letters : (b : ℕ) → b < sheetWithin most s .plan .n → letterOn s b ≡ getD (sheetWithin most s .plan .kind) b 0
   unfolding planIn
-  sheet-letters = rw (← read-plan) (letters-are s (stages s e))
+  sheet-letters = rw (← read-plan) (letters-are s (told .stages))
 
   -- and the numbers of its desks
-  pub sheet-desks : (b : ℕ) → b < sheetOf s .plan .n → deskOn s b ≡ getD (sheetOf s .plan .desk) b 0
+  pub sheet-desks : (b : ℕ) → b < sheetWithin most s .plan .n → deskOn s b ≡ getD (sheetWithin most s .plan .desk) b 0
   unfolding planIn
-  sheet-desks = rw (← read-plan) (desks-are s (stages s e))
+  sheet-desks = rw (← read-plan) (desks-are s (told .stages))
 
   -- the counts that its way lines list add up to the sizes of its sets
-  pub sheet-counts : countsListed (sheetOf s .plan .a) (drop (waysPlace (sheetOf s .plan .n) (sheetOf s .plan .m)) s)
-      ≡ sum (sizeAt (sheetOf s .plan .way)) (sheetOf s .plan .a)
+  pub sheet-counts : countsListed (sheetWithin most s .plan .a) (drop (waysPlace (sheetWithin most s .plan .n) (sheetWithin most s .plan .m)) s)
+      ≡ sum (sizeAt (sheetWithin most s .plan .way)) (sheetWithin most s .plan .a)
   unfolding planIn
-  sheet-counts = rw (← read-plan) (the-ways s (stages s e) .counts)
+  sheet-counts = rw (← read-plan) (the-ways s (told .stages) .counts)
 
   -- and the numbers are those of the bookings in its sets
-  pub sheet-ways : (w b : ℕ) → w < sheetOf s .plan .a
-      → listedOn w b (drop (waysPlace (sheetOf s .plan .n) (sheetOf s .plan .m)) s) ≡ member (getD (sheetOf s .plan .way) w 0) b
+  pub sheet-ways : (w b : ℕ) → w < sheetWithin most s .plan .a
+      → listedOn w b (drop (waysPlace (sheetWithin most s .plan .n) (sheetWithin most s .plan .m)) s) ≡ member (getD (sheetWithin most s .plan .way) w 0) b
   unfolding planIn
-  sheet-ways = rw (← read-plan) (the-ways s (stages s e) .bookings)
+  sheet-ways = rw (← read-plan) (the-ways s (told .stages) .bookings)

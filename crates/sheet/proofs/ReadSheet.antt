@@ -4,17 +4,20 @@ use mathlib.Core.Path.{_≡_, refl, sym, _∙_}
 use mathlib.Core.List.{List, _++_, [], append-nil}
 use mathlib.Core.Bool.{true}
 use Prim.Native.Nat.{ℕ, _+_, _*_, _≤_}
+use native.Mathlib.Nat.{mul-le-mul}
 use native.Mathlib.Omega.{arith}
-use lib.ListN.{length, length-append, take, drop}
+use lib.ListN.{length, getD, length-append, take, drop}
 use lib.Seq.{take-at, drop-at, drop-drop}
 use borrow.Author.Tests.{eq-eqb}
 use Rattle.bounded.proofs.Filled.{filled}
+use Rattle.sets.proofs.Gather.{size-le}
 use Rattle.plan.specs.declared.Plan.{Plan}
 use Rattle.plan.specs.Judging.{isFine}
-use Rattle.plan.specs.Limits.{mostBookings}
+use Rattle.plan.specs.Limits.{ours, counted}
+use Rattle.plan.specs.declared.Limits.{Limits}
 use Rattle.plan.specs.Record.{recordOf}
 use Rattle.plan.specs.declared.Judged.the-variants.{Fine}
-use Rattle.plan.proofs.LimitLaws.{Limited, limited-i}
+use Rattle.plan.proofs.LimitLaws.{Counted, Limited, limited-i}
 use Rattle.plan.proofs.Valid.{valid, fine-entries, booking-fits, link-fits}
 use Rattle.lines.specs.Form.{headBytes, bookingBytes, linkBytes, linksPlace, waysPlace}
 use Rattle.lines.specs.Head.{headText, headOf}
@@ -28,10 +31,10 @@ use Rattle.lines.specs.declared.Head.the-variants as H
 use Rattle.ways.specs.WayText.{wayBytes, waysText, waysLength}
 use Rattle.ways.specs.Ways.{noWays}
 use Rattle.ways.proofs.WaysRoundTrip.{ways-length, all-read}
-use Rattle.ways.proofs.TextLaws.{ways-most}
-use Rattle.sheet.specs.Text.{sheetText, sheetLength, longestSheet}
-use Rattle.sheet.specs.Sheet.{bookingsIn, linksIn, waysIn, planIn, endOf, bodyOf, sheetOf}
-use Rattle.sheet.proofs.Accepted.{sheet-fine, sheet-accepted}
+use Rattle.ways.proofs.TextLaws.{length-most}
+use Rattle.sheet.specs.Text.{sheetText, sheetLength, longestWithin}
+use Rattle.sheet.specs.Sheet.{bookingsIn, linksIn, waysIn, planIn, endOf, bodyOf, sheetWithin}
+use Rattle.sheet.proofs.Accepted.{sheet-fine, sheet-counted, sheet-accepted}
 
 pub sheet-length : (p : Plan) → length (sheetText p) ≡ sheetLength p
 unfolding sheetText sheetLength
@@ -69,11 +72,11 @@ module _ (p : Plan) (e : recordOf p ≡ R.Fine) where
   fits : Limited (p .n) (p .m) (p .a) (p .limit)
   fits = valid p e .counts
 
-  the-head : headOf (take headBytes (sheetText p)) ≡ H.Counts (p .n) (p .m) (p .a) (p .limit)
+  the-head : (most : Limits) → counted most (p .n) (p .m) (p .a) ≡ true → headOf most (take headBytes (sheetText p)) ≡ H.Counts (p .n) (p .m) (p .a) (p .limit)
   unfolding sheetText
-  the-head =
+  the-head most c =
       rw (take-at (headText (p .n) (p .m) (p .a) (p .limit)) (bookingsText (p .n) 0 (p .kind) (p .desk) ++ (linksText (p .m) 0 (p .from) (p .to) ++ waysText (p .a) 0 (p .way))) headBytes (head-length (p .n) (p .m) (p .a) (p .limit)))
-      (head-read (p .n) (p .m) (p .a) (p .limit) (limited-i (p .n) (p .m) (p .a) (p .limit) fits))
+      (head-read (p .n) (p .m) (p .a) (p .limit) most (limited-i (p .n) (p .m) (p .a) (p .limit) fits) c)
 
   from-bookings : drop headBytes (sheetText p) ≡ bookingsText (p .n) 0 (p .kind) (p .desk) ++ (linksText (p .m) 0 (p .from) (p .to) ++ waysText (p .a) 0 (p .way))
   unfolding sheetText
@@ -108,20 +111,24 @@ module _ (p : Plan) (e : recordOf p ≡ R.Fine) where
       (all-read (p .n) (p .n + p .m + 2) (p .a) (waysPlace (p .n) (p .m)) (p .way) [] (fits .bookings)
       (λ k h. record { some = valid p e .taken k h; small = valid p e .sets k h }))
 
-  -- the sheet of a record that is fine reads as that record
-  pub sheet-read : sheetOf (sheetText p) ≡ record { judged = Fine; plan = readPlan p }
-  unfolding sheetOf bodyOf endOf planIn readPlan
-  sheet-read = rw (the-head, the-bookings, the-links, the-ways, eq-eqb _ _ (sym (sheet-length p)))
+  -- the sheet of a record that is fine reads as that record, to each caller that takes so much
+  pub sheet-read : (most : Limits) → counted most (p .n) (p .m) (p .a) ≡ true → sheetWithin most (sheetText p) ≡ record { judged = Fine; plan = readPlan p }
+  unfolding sheetWithin bodyOf endOf planIn readPlan
+  sheet-read most c = rw (the-head most c, the-bookings, the-links, the-ways, eq-eqb _ _ (sym (sheet-length p)))
 
-  pub length-bound : length (sheetText p) ≤ longestSheet
-  unfolding sheetLength
-  length-bound =
-      let w : waysLength (p .a) (p .way) ≤ wayBytes mostBookings * p .a = ways-most _ (p .a) (p .way) refl in
-      omega (arith, sheet-length p, fits .bookings, fits .links, fits .ways)
+  -- it is no longer than a caller's longest, if the caller takes it
+  pub length-bound : (most : Limits) → Counted most (p .n) (p .m) (p .a) → length (sheetText p) ≤ longestWithin most
+  unfolding sheetLength longestWithin
+  length-bound most c =
+      let w : waysLength (p .a) (p .way) ≤ wayBytes (p .n) * p .a = length-most (p .n) (p .a) (p .way) (λ k h. size-le (p .n) (getD (p .way) k 0) (fits .bookings) (valid p e .sets k h)) in
+      let l : wayBytes (p .n) ≤ wayBytes (most .bookings) = omega (arith, c .bookings) in
+      omega (arith, sheet-length p, c .bookings, c .links, w, mul-le-mul l (c .ways))
 
-pub longest-is : longestSheet ≡ 10098
+-- of ours the longest has so many bytes
+pub longest-is : longestWithin ours ≡ 10098
+unfolding longestWithin ours
 longest-is = refl
 
 -- no accepted sheet is longer
-pub sheet-bound : (s : List ℕ) → isFine (sheetOf s .judged) ≡ true → length s ≤ longestSheet
-sheet-bound s e = rw (← (sheet-accepted s e)) (length-bound (sheetOf s .plan) (sheet-fine s e))
+pub sheet-bound : (most : Limits) (s : List ℕ) → isFine (sheetWithin most s .judged) ≡ true → length s ≤ longestWithin most
+sheet-bound most s e = rw (← (sheet-accepted most s e)) (length-bound (sheetWithin most s .plan) (sheet-fine most s e) most (sheet-counted most s e))

@@ -11,8 +11,9 @@ use borrow.Author.Tests.{eq-eqb, ne-eqb, not-true, not-false}
 use Rattle.bounded.proofs.Bools.{which, clash}
 use Rattle.plan.specs.Judging.{isFine}
 use Rattle.plan.specs.Outline.{outlineOf, planOf}
+use Rattle.plan.specs.declared.Limits.{Limits}
 use Rattle.plan.specs.declared.Judged.{Judged}
-use Rattle.plan.specs.declared.Judged.the-variants.{Fine, Form, Count}
+use Rattle.plan.specs.declared.Judged.the-variants.{Fine, Form, Count, Oversize}
 use Rattle.plan.specs.declared.Plan.{Plan}
 use Rattle.lines.specs.Form.{headBytes, linksPlace, waysPlace}
 use Rattle.lines.specs.Head.{headOf}
@@ -22,7 +23,7 @@ use Rattle.lines.specs.declared.Head.the-variants as H
 use Rattle.lines.specs.declared.Bookings.{Bookings}
 use Rattle.ways.specs.Ways.{waysOf, noWays}
 use Rattle.ways.specs.declared.Ways.{Ways}
-use Rattle.sheet.specs.Sheet.{bookingsIn, linksIn, waysIn, planIn, refusedOf, endOf, bodyOf, afterHead, sheetOf}
+use Rattle.sheet.specs.Sheet.{bookingsIn, linksIn, waysIn, planIn, refusedOf, endOf, bodyOf, afterHead, sheetWithin}
 use Rattle.sheet.specs.Outlined.{outlinedOf, noneRead, bodyLinks, linksAfter, linksRead}
 use Rattle.sheet.specs.declared.Sheet.{Sheet}
 use Rattle.sheet.specs.declared.Outlined.{Outlined}
@@ -88,26 +89,32 @@ module _ (n m a limit : ℕ) (s : List ℕ) (k : Bookings) (e : k ≡ bookingsIn
 
 -- ---- the head
 
-module _ (s line : List ℕ) (h : Head) (p : line ≡ take headBytes s) (e : h ≡ headOf line) where
-  by-head : sheetOf s ≡ afterHead h s
-  unfolding sheetOf
+module _ (most : Limits) (s line : List ℕ) (h : Head) (p : line ≡ take headBytes s) (e : h ≡ headOf most line) where
+  by-head : sheetWithin most s ≡ afterHead h s
+  unfolding sheetWithin
   by-head = rw (e, p)
 
-  links-by-head : linksRead s ≡ linksAfter h s
+  links-by-head : linksRead most s ≡ linksAfter h s
   unfolding linksRead
   links-by-head = rw (e, p)
 
-  module _ (us vs : List ℕ) (eu : us ≡ noLinks) (ev : vs ≡ noLinks) where
-    pub head-form : h ≡ H.Malformed → (r : Outlined) → r ≡ outlinedOf (refusedOf (Form 1)) → Out (sheetOf s) (linksRead s) r us vs
+  -- it is refused
+  module _ (us vs : List ℕ) (eu : us ≡ noLinks) (ev : vs ≡ noLinks) (r : Outlined) where
+    head-refused : (j : Judged) → afterHead h s ≡ refusedOf j → linksAfter h s ≡ noneRead → r ≡ outlinedOf (refusedOf j) → Out (sheetWithin most s) (linksRead most s) r us vs
     unfolding noneRead
-    head-form g r i = rw (eu, ev) (out (refusedOf (Form 1)) (sheetOf s) noneRead (linksRead s) r i (rw (by-head, g)) (rw (links-by-head, g)))
+    head-refused j g l i = rw (eu, ev) (out (refusedOf j) (sheetWithin most s) noneRead (linksRead most s) r i (rw (by-head, g)) (rw (links-by-head, l)))
 
-    pub head-count : h ≡ H.OutOfLimits → (r : Outlined) → r ≡ outlinedOf (refusedOf (Count 1)) → Out (sheetOf s) (linksRead s) r us vs
-    unfolding noneRead
-    head-count g r i = rw (eu, ev) (out (refusedOf (Count 1)) (sheetOf s) noneRead (linksRead s) r i (rw (by-head, g)) (rw (links-by-head, g)))
+    pub head-form : h ≡ H.Malformed → r ≡ outlinedOf (refusedOf (Form 1)) → Out (sheetWithin most s) (linksRead most s) r us vs
+    head-form g i = head-refused (Form 1) (rw g) (rw g) i
+
+    pub head-count : h ≡ H.OutOfLimits → r ≡ outlinedOf (refusedOf (Count 1)) → Out (sheetWithin most s) (linksRead most s) r us vs
+    head-count g i = head-refused (Count 1) (rw g) (rw g) i
+
+    pub head-over : h ≡ H.Oversize → r ≡ outlinedOf (refusedOf (Oversize 1)) → Out (sheetWithin most s) (linksRead most s) r us vs
+    head-over g i = head-refused (Oversize 1) (rw g) (rw g) i
 
   module _ (n m a limit : ℕ) (g : h ≡ H.Counts n m a limit) where
-    pub head-right : (us vs : List ℕ) (r : Outlined) → Out (bodyOf n m a limit s) (bodyLinks n m s) r us vs → Out (sheetOf s) (linksRead s) r us vs
+    pub head-right : (us vs : List ℕ) (r : Outlined) → Out (bodyOf n m a limit s) (bodyLinks n m s) r us vs → Out (sheetWithin most s) (linksRead most s) r us vs
     head-right us vs r o = rw (by-head, links-by-head, g) o
 
 -- ---- the whole sheet
@@ -137,9 +144,9 @@ end-reads n m a limit s = elim (which (eqb (waysIn n m a s .next) (length s))) [
   | inr e ↦ rw e (refuses (Form (n + m + a + 2)) (linksIn n m s) refl)
 ]
 
-reading : (s : List ℕ) → Reading (sheetOf s) (linksRead s)
-unfolding sheetOf linksRead bodyOf bodyLinks
-reading s = go (headOf (take headBytes s))
+reading : (most : Limits) (s : List ℕ) → Reading (sheetWithin most s) (linksRead most s)
+unfolding sheetWithin linksRead bodyOf bodyLinks
+reading most s = go (headOf most (take headBytes s))
   where
     go : (h : Head) → Reading (afterHead h s) (linksAfter h s)
     go (H.Counts n m a limit) =
@@ -147,6 +154,7 @@ reading s = go (headOf (take headBytes s))
         (past-same (linksIn n m s .judged) _ (linksIn n m s) (past-same (waysIn n m a s .judged) (endOf n m a limit s) (linksIn n m s) (end-reads n m a limit s)))
     go H.Malformed = refuses (Form 1) noneRead refl
     go H.OutOfLimits = refuses (Count 1) noneRead refl
+    go H.Oversize = refuses (Oversize 1) noneRead refl
 
 -- what is told of a sheet is fine: its plan has the links that were read
 plan-reads : {t : Sheet} {l : Links} → Reading t l → isFine (t .judged) ≡ true → (record { judged = Fine; plan = planOf (outlineOf (t .plan)) (l .from) (l .to) }) ≡ t
@@ -160,9 +168,9 @@ unfolding refusedOf
 plan-empty (refuses j l n) f = refl
 plan-empty (reads p l u v) f = clash true refl f
 
-pub read-fine : (s : List ℕ) → isFine (sheetOf s .judged) ≡ true
-    → _≡_ {A = Sheet} (record { judged = Fine; plan = planOf (outlineOf (sheetOf s .plan)) (linksRead s .from) (linksRead s .to) }) (sheetOf s)
-read-fine s f = plan-reads (reading s) f
+pub read-fine : (most : Limits) (s : List ℕ) → isFine (sheetWithin most s .judged) ≡ true
+    → _≡_ {A = Sheet} (record { judged = Fine; plan = planOf (outlineOf (sheetWithin most s .plan)) (linksRead most s .from) (linksRead most s .to) }) (sheetWithin most s)
+read-fine most s f = plan-reads (reading most s) f
 
-pub read-refused : (s : List ℕ) → isFine (sheetOf s .judged) ≡ false → refusedOf (sheetOf s .judged) ≡ sheetOf s
-read-refused s f = plan-empty (reading s) f
+pub read-refused : (most : Limits) (s : List ℕ) → isFine (sheetWithin most s .judged) ≡ false → refusedOf (sheetWithin most s .judged) ≡ sheetWithin most s
+read-refused most s f = plan-empty (reading most s) f

@@ -5,13 +5,14 @@ use mathlib.Core.List.{List}
 use mathlib.Core.Bool.{cond}
 use lib.ListN.{take}
 use Rattle.plan.specs.Judging.{isFine}
+use Rattle.plan.specs.declared.Limits.{Limits}
 use Rattle.plan.specs.Outline.{outlineOf}
 use Rattle.plan.specs.declared.Judged.the-variants.{Fine}
 use Rattle.lines.specs.Form.{headBytes}
 use Rattle.lines.specs.Head.{headOf}
 use Rattle.lines.specs.Links.{Links, noLinks}
 use Rattle.lines.specs.declared.Head.{Head}
-use Rattle.lines.specs.declared.Head.the-variants.{Counts, Malformed, OutOfLimits}
+use Rattle.lines.specs.declared.Head.the-variants.{Counts, Malformed, OutOfLimits, Oversize}
 use Rattle.sheet.specs.Sheet.{bookingsIn, linksIn}
 use Rattle.sheet.specs.declared.Sheet.{Sheet}
 use Rattle.sheet.specs.declared.Outlined.{Outlined}
@@ -32,6 +33,7 @@ abbrev pub linksAfter : Head → List ℕ → Links
 linksAfter (Counts n m a limit) s = bodyLinks n m s
 linksAfter Malformed s = noneRead
 linksAfter OutOfLimits s = noneRead
+linksAfter Oversize s = noneRead
 
-unfoldable pub linksRead : List ℕ → Links
-linksRead s = linksAfter (headOf (take headBytes s)) s
+unfoldable pub linksRead : Limits → List ℕ → Links
+linksRead most s = linksAfter (headOf most (take headBytes s)) s

@@ -1,22 +1,26 @@
 -- A plan sheet: the head, the lines of the bookings, of the links and of the ways, and nothing after them.
--- It is judged line by line from the top, so the first line that is refused decides: 1 for its form, 2 for a count, 3 for a number.
+-- It is judged line by line from the top, so the first line that is refused decides: 1 for its form, 2 for a count, 3 for a number; at the head
+-- 16, after these, where the caller takes less than a sheet may have.
 -- Where bytes end early the line that lacks one is not of its form; where bytes remain, the line after the last is not.
 -- Assumes nothing.
 use Prim.Native.Nat.{ℕ, _+_}
 use mathlib.Core.List.{List}
-use mathlib.Core.Bool.{cond}
+use mathlib.Core.Bool.{Bool, cond}
 use lib.ListN.{length, take, drop}
 use lib.Dec.{eqb}
+use Rattle.plan.specs.Limits.{ours}
 use Rattle.plan.specs.Judging.{isFine}
+use Rattle.plan.specs.declared.Limits.{Limits}
 use Rattle.plan.specs.declared.Judged.{Judged}
+use Rattle.plan.specs.declared.Judged.the-variants as J
 use Rattle.plan.specs.declared.Judged.the-variants.{Fine, Form, Count}
 use Rattle.plan.specs.declared.Plan.{Plan}
 use Rattle.lines.specs.Form.{headBytes, linksPlace, waysPlace}
-use Rattle.lines.specs.Head.{headOf}
+use Rattle.lines.specs.Head.{headOf, overHead}
 use Rattle.lines.specs.Bookings.{bookingsOf, noBookings}
 use Rattle.lines.specs.Links.{Links, linksOf, noLinks}
 use Rattle.lines.specs.declared.Head.{Head}
-use Rattle.lines.specs.declared.Head.the-variants.{Counts, Malformed, OutOfLimits}
+use Rattle.lines.specs.declared.Head.the-variants.{Counts, Malformed, OutOfLimits, Oversize}
 use Rattle.lines.specs.declared.Bookings.{Bookings}
 use Rattle.ways.specs.Ways.{waysOf, noWays}
 use Rattle.ways.specs.declared.Ways.{Ways}
@@ -69,7 +73,16 @@ abbrev pub afterHead : Head → List ℕ → Sheet
 afterHead (Counts n m a limit) s = bodyOf n m a limit s
 afterHead Malformed s = refusedOf (Form 1)
 afterHead OutOfLimits s = refusedOf (Count 1)
+afterHead Oversize s = refusedOf (J.Oversize 1)
 
--- what the bytes of a sheet are
-unfoldable pub sheetOf : List ℕ → Sheet
-sheetOf s = afterHead (headOf (take headBytes s)) s
+-- what the bytes of a sheet are to a caller with such limits
+unfoldable pub sheetWithin : Limits → List ℕ → Sheet
+sheetWithin most s = afterHead (headOf most (take headBytes s)) s
+
+-- and to us
+abbrev pub sheetOf : List ℕ → Sheet
+sheetOf s = sheetWithin ours s
+
+-- a sheet within our limits and over the caller's, by its head
+unfoldable pub oversize : Limits → List ℕ → Bool
+oversize most s = overHead most (take headBytes s)

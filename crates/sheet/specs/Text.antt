@@ -2,7 +2,7 @@
 -- Assumes nothing.
 use Prim.Native.Nat.{ℕ, _+_, _*_}
 use mathlib.Core.List.{List, _++_}
-use Rattle.plan.specs.Limits.{mostBookings, mostLinks, mostWays}
+use Rattle.plan.specs.declared.Limits.{Limits}
 use Rattle.plan.specs.declared.Plan.{Plan}
 use Rattle.lines.specs.Form.{waysPlace}
 use Rattle.lines.specs.Head.{headText}
@@ -18,6 +18,6 @@ sheetText p =
 unfoldable pub sheetLength : Plan → ℕ
 sheetLength p = waysPlace (p .n) (p .m) + waysLength (p .a) (p .way)
 
--- how many bytes the longest has: as many bookings, links and ways as there may be, and every booking in each way
-abbrev pub longestSheet : ℕ
-longestSheet = waysPlace mostBookings mostLinks + wayBytes mostBookings * mostWays
+-- how many bytes the longest has that a caller takes: as many bookings, links and ways as its limits let it have, and every booking in each way
+unfoldable pub longestWithin : Limits → ℕ
+longestWithin most = waysPlace (most .bookings) (most .links) + wayBytes (most .bookings) * most .ways

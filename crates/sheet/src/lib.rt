@@ -2,6 +2,7 @@
 use lines::Bookings;
 use lines::Head;
 use plan::Judged;
+use plan::Limits;
 use plan::Outline;
 use plan::Plan;
 use ways::Ways;
@@ -10,7 +11,7 @@ ghost use Prim.Native.Nat.{_≤_};
 ghost use Rattle.plan.specs.declared.Judged.the-variants.{Fine};
 ghost use Rattle.plan.specs.Limits.{mostBookings, mostLinks, mostWays};
 ghost use Rattle.lines.specs.Links.{noLinks};
-ghost use Rattle.sheet.specs.Sheet.{bookingsIn, waysIn, refusedOf, bodyOf, sheetOf};
+ghost use Rattle.sheet.specs.Sheet.{bookingsIn, waysIn, refusedOf, bodyOf, sheetWithin, sheetOf};
 ghost use Rattle.sheet.specs.Outlined.{outlinedOf, bodyLinks, linksRead};
 
 // What a sheet is, and its plan, which is empty where the sheet is refused.
@@ -136,26 +137,27 @@ fn read_body(
     }
 }
 
-// Reads a sheet, whatever its bytes are and however many; the links go into two lent arrays, which come empty.
-pub fn read_outline(s: &[u8], from: &mut [u8; 512], to: &mut [u8; 512]) -> Outlined
+// Reads a sheet for a caller with such limits, whatever its bytes are and however many; the links go into two lent arrays, which come empty.
+pub fn read_outline(s: &[u8], most: Limits, from: &mut [u8; 512], to: &mut [u8; 512]) -> Outlined
     requires { ⌜ (now from ≡ noLinks) × (now to ≡ noLinks) ⌝ }
-    ensures told { λ r. ⌜ r ≡ outlinedOf (sheetOf (now (s .entry))) ⌝ }
-    ensures left { λ _. ⌜ (now (from .exit) ≡ linksRead (now (s .entry)) .from) × (now (to .exit) ≡ linksRead (now (s .entry)) .to) ⌝ }
+    ensures told { λ r. ⌜ r ≡ outlinedOf (sheetWithin most (now (s .entry))) ⌝ }
+    ensures left { λ _. ⌜ (now (from .exit) ≡ linksRead most (now (s .entry)) .from) × (now (to .exit) ≡ linksRead most (now (s .entry)) .to) ⌝ }
 {
-    match lines::read_head(decimal::part(s, 0, lines::HEAD_BYTES)) {
+    match lines::read_head(decimal::part(s, 0, lines::HEAD_BYTES), most) {
         Head::Counts(n, m, a, limit) => read_body(s, n, m, a, limit, from, to),
         Head::Malformed => no_outline(Judged::Form(1)),
         Head::OutOfLimits => no_outline(Judged::Count(1)),
+        Head::Oversize => no_outline(Judged::Oversize(1)),
     }
 }
 
-// Reads a sheet to a plan.
+// Reads a sheet of ours to a plan.
 pub fn read_sheet(s: &[u8]) -> Sheet
     ensures { λ r. ⌜ r ≡ sheetOf (now (s .entry)) ⌝ }
 {
     let mut from = [0u8; 512];
     let mut to = [0u8; 512];
-    let read = read_outline(s, &mut from, &mut to);
+    let read = read_outline(s, plan::ours(), &mut from, &mut to);
     let judged = read.judged;
     if !plan::is_fine(judged) {
         return refused(judged);

@@ -9,6 +9,7 @@ use borrow.Author.Tests.{eq-eqb}
 use Rattle.bounded.proofs.Bools.{_&_}
 use Rattle.lines.specs.Form.{waysPlace}
 use Rattle.lines.specs.Head.{limitIn}
+use Rattle.plan.specs.Limits.{ours}
 use Rattle.sheet.specs.Sheet.{sheetOf}
 use Rattle.sheet.proofs.Accepted.{sheet-valid, sheet-limit, sheet-letters, sheet-desks, sheet-counts, sheet-ways}
 use Rattle.plan.proofs.Valid.{Valid}
@@ -30,7 +31,7 @@ use Rattle.guarantee.proofs.Bytes.{same-run, fine as sound-bytes, call-bits, ca
 use Rattle.guarantee.proofs.Start.{start-sound}
 use Rattle.guarantee.proofs.Whole.{travel}
 use Rattle.guarantee.proofs.Plans.{plan-campaign}
-use Rattle.calls.specs.Calls.{networkIn, sheetPasses, startLeaves, askedCall, askedLeaves, inOrder}
+use Rattle.calls.specs.Calls.{networkWithin, networkIn, sheetPasses, startLeaves, askedCall, askedLeaves, inOrder}
 use Rattle.calls.proofs.InOrder.{fine, checked, passing}
 use Rattle.block_calls.specs.Block.{blockIn, blockCall, blockLeaves}
 use Rattle.whole_campaign.specs.Calls.{Call, single, block, singles, gives, leaves, givesBy, leavesBy}
@@ -42,19 +43,19 @@ use Rattle.whole_campaign.proofs.Parts.{flat, finalBy, flat-final, sing
 module _ (s : List ℕ) (e : sheetPasses s ≡ true) where
   -- the ways of the sheet and the counts on its lines
   listed-sizes : waySizes (networkIn s) ≡ countsListed (sheetOf s .plan .a) (drop (waysPlace (sheetOf s .plan .n) (sheetOf s .plan .m)) s)
-  unfolding waySizes waySize wayOf networkIn networkOf sizeAt
-  listed-sizes = sym (sheet-counts s (fine s e))
+  unfolding waySizes waySize wayOf networkWithin networkOf sizeAt
+  listed-sizes = sym (sheet-counts ours s (fine s e))
 
   -- its limit is the head's last number
   listed-limit : networkIn s .limit ≡ limitIn s
-  unfolding networkIn networkOf
-  listed-limit = sym (sheet-limit s (fine s e))
+  unfolding networkWithin networkOf
+  listed-limit = sym (sheet-limit ours s (fine s e))
 
   valid-plan : Valid (sheetOf s .plan)
-  valid-plan = sheet-valid s (fine s e)
+  valid-plan = sheet-valid ours s (fine s e)
 
   guaranteed : (qs : List Asked) → Guarantee (networkIn s) qs
-  unfolding networkIn
+  unfolding networkWithin
   guaranteed qs = plan-campaign (sheetOf s .plan) valid-plan (checked s e) qs
 
   -- ---- on a sound state the calls on bytes are the plain machine's
@@ -146,7 +147,7 @@ module _ (s : List ℕ) (e : sheetPasses s ≡ true) where
 
   -- every list of calls from the first state has the guarantee
   pub from-start : (cs : List Call) → WholeCampaign s (bytesOf start) cs
-  unfolding answersTo orderAfter inWay wayOf networkIn networkOf
+  unfolding answersTo orderAfter inWay wayOf networkWithin networkOf
   from-start cs =
       let qs : List Asked = singlyOn s (bytesOf start) cs in
       let g = guaranteed qs in
@@ -160,9 +161,9 @@ module _ (s : List ℕ) (e : sheetPasses s ≡ true) where
         same-state = singles-left qs ∙ sym (left-final cs);
         demand-3 = rw (a, x) (g .demand-3);
         sizes = listed-sizes;
-        ways = (refl, λ w b h. sym (sheet-ways s (fine s e) w b h));
-        kinds = λ b h. rw (sheet-letters s (fine s e) b h) (firm-is (sheetOf s .plan) valid-plan b h, repeats-is (sheetOf s .plan) valid-plan b h);
-        desks = λ d b l h. rw (sheet-desks s (fine s e) b h) (desk-is (sheetOf s .plan) d b l h);
+        ways = (refl, λ w b h. sym (sheet-ways ours s (fine s e) w b h));
+        kinds = λ b h. rw (sheet-letters ours s (fine s e) b h) (firm-is (sheetOf s .plan) valid-plan b h, repeats-is (sheetOf s .plan) valid-plan b h);
+        desks = λ d b l h. rw (sheet-desks ours s (fine s e) b h) (desk-is (sheetOf s .plan) d b l h);
         limit = listed-limit;
         semi-atomic = λ z. rw a (g .semi-atomic (ap ends (sym x) ∙ z));
       }

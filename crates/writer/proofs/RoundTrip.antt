@@ -13,18 +13,19 @@ use borrow.Author.Tests.{le-leb}
 use Rattle.bounded.proofs.Bools.{clash}
 use Rattle.bounded.proofs.Lists.{zeros-at}
 use Rattle.plan.specs.Judging.{isFine}
-use Rattle.plan.specs.Limits.{mostBookings, mostLinks, mostWays}
+use Rattle.plan.specs.Limits.{mostBookings, mostLinks, mostWays, ours, counted}
 use Rattle.plan.specs.Record.{recordOf}
+use Rattle.plan.specs.declared.Limits.{Limits}
 use Rattle.plan.specs.declared.Plan.{Plan}
 use Rattle.plan.specs.declared.Judged.the-variants.{Fine}
 use Rattle.plan.specs.declared.Judgement.{Judgement}
 use Rattle.plan.specs.declared.Judgement.the-variants as R
 use Rattle.bounded.proofs.Filled.{filled, filled-at, filled-past}
-use Rattle.plan.proofs.Valid.{valid}
+use Rattle.plan.proofs.Valid.{valid, fine-counted}
 use Rattle.lines.specs.Bookings.{noBookings}
 use Rattle.lines.specs.Links.{noLinks}
 use Rattle.ways.specs.Ways.{noWays}
-use Rattle.sheet.specs.Sheet.{sheetOf}
+use Rattle.sheet.specs.Sheet.{sheetWithin}
 use Rattle.sheet.specs.Text.{sheetText}
 use Rattle.sheet.specs.declared.Sheet.{Sheet}
 use Rattle.sheet.proofs.Accepted.{sheet-fine, sheet-accepted}
@@ -76,23 +77,29 @@ taken p size k = go (recordOf p) refl
     go R.Sequence f q = clash true refl cc
 
 -- the front that the writer leaves is an accepted sheet, and its plan is the record
-pub record Reads (p : Plan) (s : List ℕ) : Type 0 where
-  pub accepted : sheetOf s .judged ≡ Fine
-  pub same : ReadBack p (sheetOf s .plan)
+pub record Reads (most : Limits) (p : Plan) (s : List ℕ) : Type 0 where
+  pub accepted : sheetWithin most s .judged ≡ Fine
+  pub same : ReadBack p (sheetWithin most s .plan)
 
-pub written-read : (p : Plan) (d : List ℕ) (k : ℕ) → writtenOf p (length d) ≡ Length k → Reads p (take k (leaves p d))
-unfolding leaves
-written-read p d k e =
-    let t : Taken p k = taken p (length d) k e in
-    let f : take k (sheetText p ++ drop k d) ≡ sheetText p = take-at (sheetText p) (drop k d) k (t .long) in
-    rw (e, f) (record { accepted = ap (λ (r : Sheet). r .judged) (sheet-read p (t .fine)); same = rw (sheet-read p (t .fine)) (plan-read p (t .fine)) })
+module _ (p : Plan) (d : List ℕ) (k : ℕ) (e : writtenOf p (length d) ≡ Length k) where
+  -- to each caller that takes so much
+  pub written-within : (most : Limits) → counted most (p .n) (p .m) (p .a) ≡ true → Reads most p (take k (leaves p d))
+  unfolding leaves
+  written-within most c =
+      let t : Taken p k = taken p (length d) k e in
+      let f : take k (sheetText p ++ drop k d) ≡ sheetText p = take-at (sheetText p) (drop k d) k (t .long) in
+      rw (e, f) (record { accepted = ap (λ (r : Sheet). r .judged) (sheet-read p (t .fine) most c); same = rw (sheet-read p (t .fine) most c) (plan-read p (t .fine)) })
+
+  -- and so to us
+  pub written-read : Reads ours p (take k (leaves p d))
+  written-read = written-within ours (fine-counted p (taken p (length d) k e .fine))
 
 -- an accepted sheet, read and written, is the same bytes
-module _ (s d : List ℕ) (e : isFine (sheetOf s .judged) ≡ true) (h : length s ≤ length d) where
-  pub read-answer : writtenOf (sheetOf s .plan) (length d) ≡ Length (length s)
+module _ (most : Limits) (s d : List ℕ) (e : isFine (sheetWithin most s .judged) ≡ true) (h : length s ≤ length d) where
+  pub read-answer : writtenOf (sheetWithin most s .plan) (length d) ≡ Length (length s)
   unfolding writtenOf fineAnswer
-  read-answer = rw (sheet-fine s e, sheet-accepted s e, le-leb _ _ h)
+  read-answer = rw (sheet-fine most s e, sheet-accepted most s e, le-leb _ _ h)
 
-  pub read-written : leaves (sheetOf s .plan) d ≡ s ++ drop (length s) d
+  pub read-written : leaves (sheetWithin most s .plan) d ≡ s ++ drop (length s) d
   unfolding leaves
-  read-written = rw (read-answer, sheet-accepted s e)
+  read-written = rw (read-answer, sheet-accepted most s e)

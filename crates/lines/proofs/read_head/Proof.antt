@@ -1,6 +1,6 @@
 -- `lines::read_head` meets its contract.
 -- Assumes nothing.
-use Rattle.lines.proofs.HeadLaws.{no-frame, no-bookings, no-links, no-ways, no-limit, out, counts}
+use Rattle.lines.proofs.HeadLaws.{no-frame, no-bookings, no-links, no-ways, no-limit, formed}
 use borrow.Author.Needs.{needs}
 use Rattle.lines.proofs.read_head.Statement.{statement}
 use Rattle.lines.proofs.read_head.Tie as tie
@@ -21,10 +21,7 @@ returns-5 : tie.Need-returns-5
 returns-5 c = search no-limit
 
 returns-6 : tie.Need-returns-6
-returns-6 c = search out
-
-returns-7 : tie.Need-returns-7
-returns-7 c = search counts
+returns-6 c = search formed
 
 pub read-head-spec : {M : Type 1} → statement M
 read-head-spec =
@@ -45,5 +42,4 @@ read-head-spec =
     (search needs)
     returns-5
     (search needs)
-    returns-6
-    returns-7)
+    returns-6)

@@ -1,0 +1,2 @@
+-- The laws of crate `partner`.
+pub mod Verdicts

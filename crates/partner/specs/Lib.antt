@@ -1,0 +1,2 @@
+-- The definitions of crate `partner`.
+pub mod Partner
