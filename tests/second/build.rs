@@ -1,4 +1,4 @@
-//! Tells the linker where the real static library stands, if it is wanted.
+//! Tells the linker where the real static libraries stand, if they are wanted.
 
 fn main() {
     println!("cargo:rerun-if-env-changed=CAMPAIGN_LIB_DIR");
@@ -7,7 +7,8 @@ fn main() {
         return;
     }
     let folder = std::env::var("CAMPAIGN_LIB_DIR")
-        .expect("feature `real` needs CAMPAIGN_LIB_DIR, the folder of libcampaign.a");
+        .expect("feature `real` needs CAMPAIGN_LIB_DIR, the folder of libcampaign.a and libpartner.a");
     println!("cargo:rerun-if-changed={folder}/libcampaign.a");
+    println!("cargo:rerun-if-changed={folder}/libpartner.a");
     println!("cargo:rustc-link-search=native={folder}");
 }

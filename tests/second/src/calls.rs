@@ -1,9 +1,10 @@
-//! The nine calls on bytes, each answered with 32 bits:
-//! kind × 16,777,216 + refusal × 65,536 + place.
+//! The nine calls on bytes and the partner range's one, each answered with 32
+//! bits: kind × 16,777,216 + refusal × 65,536 + place.
 
 use crate::block::{self, Bad, Taken};
 use crate::check::{self, Network};
 use crate::journal::{self, LETTERS, LINE_LENGTH};
+use crate::partner;
 use crate::passed;
 use crate::plan::{self, Refusal};
 use crate::run::{self, Order, State};
@@ -220,6 +221,10 @@ pub fn passed_ways_judged(judged: &Judged, bytes: &[u8], listing: &mut [u8]) -> 
 
 pub fn check(sheet: &[u8]) -> u32 {
     check_judged(&judge(sheet))
+}
+
+pub fn partner_check(sheet: &[u8]) -> u32 {
+    check_judged(&partner::judge(sheet))
 }
 
 pub fn start(sheet: &[u8], state: &mut [u8]) -> u32 {

@@ -15,6 +15,7 @@ pub mod flights;
 pub mod generate;
 pub mod journal;
 pub mod old;
+pub mod partner;
 pub mod passed;
 pub mod plan;
 pub mod run;

@@ -142,22 +142,26 @@ pub fn number_in_columns(columns: &[u8]) -> Option<usize> {
 }
 
 /// The four numbers of the head.
-struct Head {
-    n: usize,
-    m: usize,
-    a: usize,
-    limit: usize,
+pub(crate) struct Head {
+    pub n: usize,
+    pub m: usize,
+    pub a: usize,
+    pub limit: usize,
 }
 
 /// Reads on from a place in the sheet and knows the line it is on.
-struct Reader<'a> {
+pub(crate) struct Reader<'a> {
     bytes: &'a [u8],
     at: usize,
     line: u32,
 }
 
 impl<'a> Reader<'a> {
-    fn demand(&self, holds: bool, number: u32) -> Result<(), Refusal> {
+    pub fn new(bytes: &'a [u8]) -> Reader<'a> {
+        Reader { bytes, at: 0, line: 0 }
+    }
+
+    pub fn demand(&self, holds: bool, number: u32) -> Result<(), Refusal> {
         if holds {
             Ok(())
         } else {
@@ -181,7 +185,7 @@ impl<'a> Reader<'a> {
         number_in_columns(columns).ok_or(Refusal { number: 1, place: self.line })
     }
 
-    fn head(&mut self) -> Result<Head, Refusal> {
+    pub fn head(&mut self) -> Result<Head, Refusal> {
         self.line += 1;
         self.mark(b'P')?;
         let (n, m, a, limit) = (self.number()?, self.number()?, self.number()?, self.number()?);
@@ -239,27 +243,34 @@ impl<'a> Reader<'a> {
         self.line += 1;
         self.demand(self.at == self.bytes.len(), 1)
     }
+
+    /// The lines that this head announces, and nothing behind them.
+    pub fn after_head(&mut self, head: Head) -> Result<Plan, Refusal> {
+        let Head { n, m, a, limit } = head;
+        let mut plan =
+            Plan { kinds: Vec::new(), desks: Vec::new(), links: Vec::new(), ways: Vec::new(), limit };
+        for number in 1..=n {
+            let (kind, desk) = self.booking(number)?;
+            plan.kinds.push(kind);
+            plan.desks.push(desk);
+        }
+        for _ in 0..m {
+            let before = plan.links.last().copied();
+            plan.links.push(self.link(n, before)?);
+        }
+        for _ in 0..a {
+            plan.ways.push(self.way(n)?);
+        }
+        self.nothing_more()?;
+        Ok(plan)
+    }
 }
 
 /// The plan on a sheet, or the first refusal among 1, 2, 3 with its line.
 pub fn read(bytes: &[u8]) -> Result<Plan, Refusal> {
-    let mut reader = Reader { bytes, at: 0, line: 0 };
-    let Head { n, m, a, limit } = reader.head()?;
-    let mut plan = Plan { kinds: Vec::new(), desks: Vec::new(), links: Vec::new(), ways: Vec::new(), limit };
-    for number in 1..=n {
-        let (kind, desk) = reader.booking(number)?;
-        plan.kinds.push(kind);
-        plan.desks.push(desk);
-    }
-    for _ in 0..m {
-        let before = plan.links.last().copied();
-        plan.links.push(reader.link(n, before)?);
-    }
-    for _ in 0..a {
-        plan.ways.push(reader.way(n)?);
-    }
-    reader.nothing_more()?;
-    Ok(plan)
+    let mut reader = Reader::new(bytes);
+    let head = reader.head()?;
+    reader.after_head(head)
 }
 
 /// The text of a plan, good or bad; nothing is judged here, so that bad

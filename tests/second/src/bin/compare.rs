@@ -1,4 +1,4 @@
-//! Compares the real static library with the second version.
+//! Compares the real static libraries, ours and the partner range's, with the second version.
 
 use second::comparison::{Campaign, Comparison, Outcome};
 use std::process::ExitCode;
@@ -70,10 +70,17 @@ mod library {
     }
 }
 
+/// The partner range's library has one call.
+mod partner_library {
+    #[link(name = "partner", kind = "static")]
+    extern "C" {
+        pub fn partner_check(sheet: *const u8, sheet_len: usize) -> u32;
+    }
+}
+
 struct Real;
 
 /// Bytes as a call is lent them.
-#[cfg(feature = "run")]
 fn lent(bytes: Option<&[u8]>) -> (*const u8, usize) {
     bytes.map_or((std::ptr::null(), 0), |bytes| (bytes.as_ptr(), bytes.len()))
 }
@@ -89,6 +96,11 @@ fn lent_to_write(bytes: Option<&mut [u8]>) -> (*mut u8, usize) {
 impl Campaign for Real {
     fn check(&self, sheet: &[u8]) -> u32 {
         unsafe { library::campaign_check(sheet.as_ptr(), sheet.len()) }
+    }
+
+    fn partner_check(&self, sheet: Option<&[u8]>) -> u32 {
+        let (sheet, length) = lent(sheet);
+        unsafe { partner_library::partner_check(sheet, length) }
     }
 
     fn start(&self, sheet: &[u8], state: &mut [u8]) -> u32 {
@@ -153,11 +165,16 @@ impl Campaign for Real {
     }
 }
 
-// A library with check alone: the other calls are never made.
+// Libraries with check and the partner range's check alone: the other calls are never made.
 #[cfg(not(feature = "run"))]
 impl Campaign for Real {
     fn check(&self, sheet: &[u8]) -> u32 {
         unsafe { library::campaign_check(sheet.as_ptr(), sheet.len()) }
+    }
+
+    fn partner_check(&self, sheet: Option<&[u8]>) -> u32 {
+        let (sheet, length) = lent(sheet);
+        unsafe { partner_library::partner_check(sheet, length) }
     }
 
     fn start(&self, _: &[u8], _: &mut [u8]) -> u32 {
@@ -245,14 +262,18 @@ fn options() -> Option<Options> {
     Some(options)
 }
 
-/// What was answered before desks, the fixed part, the desks, the journals, the blocks, any order,
-/// the ways passed over, the settlements, then rounds until their number or the time is used up.
+/// What was answered before desks, the fixed part, the partner range, the desks, the journals, the
+/// blocks, any order, the ways passed over, the settlements, then rounds until their number or the
+/// time is used up.
 fn compare(comparison: &mut Comparison, options: &Options) -> Outcome<u64> {
     let began = Instant::now();
     comparison.old_cases()?;
     println!("stored cases: {:.1} s", began.elapsed().as_secs_f64());
     comparison.fixed_part(options.seed)?;
     println!("with the fixed part: {:.1} s", began.elapsed().as_secs_f64());
+    comparison.partner(options.seed)?;
+    comparison.enough_for_the_partner()?;
+    println!("with the partner range: {:.1} s", began.elapsed().as_secs_f64());
     if !options.check_only {
         comparison.desks(options.seed, FEWEST_PASSED_OVER)?;
         comparison.enough_desks()?;

@@ -32,6 +32,12 @@ macro_rules! as_second {
             self.judged(sheet, $crate::calls::check_judged)
         }
     };
+    (partner_check) => {
+        // Not by `self.judged`, which goes by our limits.
+        fn partner_check(&self, sheet: Option<&[u8]>) -> u32 {
+            $crate::calls::partner_check(sheet.unwrap_or(b""))
+        }
+    };
     (start) => {
         fn start(&self, sheet: &[u8], state: &mut [u8]) -> u32 {
             self.judged(sheet, |judged| $crate::calls::start_judged(judged, state))

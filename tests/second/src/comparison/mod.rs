@@ -1,5 +1,6 @@
-//! The comparison of a first version of the nine calls with this one: the
-//! same 32 bits, the same bytes of state, and no other byte changed.
+//! The comparison of a first version of the nine calls and of the partner
+//! range's with this one: the same 32 bits, the same bytes of state, and no
+//! other byte changed.
 
 pub mod any_order;
 pub mod as_second;
@@ -14,6 +15,7 @@ mod ledger;
 mod lent;
 mod lines;
 mod old;
+pub mod partner;
 pub mod passed;
 mod record;
 mod replies;
@@ -35,6 +37,8 @@ use tally::Tally;
 /// The calls of the version under test.
 pub trait Campaign {
     fn check(&self, sheet: &[u8]) -> u32;
+    /// Check at the partner range. No sheet at all is lent as null and 0.
+    fn partner_check(&self, sheet: Option<&[u8]>) -> u32;
     fn start(&self, sheet: &[u8], state: &mut [u8]) -> u32;
     fn next_order(&self, sheet: &[u8], state: &mut [u8]) -> u32;
     fn reply(&self, sheet: &[u8], state: &mut [u8], letter: u8, booking: u32) -> u32;
@@ -64,7 +68,8 @@ impl Second {
 }
 
 impl Campaign for Second {
-    as_second!(check, start, next_order, reply, reply_block, restart, journal_line, settle, passed_ways);
+    as_second!(check, partner_check, start, next_order, reply, reply_block, restart);
+    as_second!(journal_line, settle, passed_ways);
 }
 
 /// Nothing to say, or what differs.
@@ -82,6 +87,7 @@ pub enum Call {
 /// A call that was made, for the report.
 enum Made {
     Call(Call),
+    PartnerCheck,
     Block(Vec<u8>),
 }
 
@@ -132,7 +138,8 @@ impl<'a> Comparison<'a> {
     }
 
     /// Makes one call with both versions. Gives the answer of the first and
-    /// leaves in `state` what both wrote.
+    /// leaves in `state` what both wrote. What check gets, the partner range's
+    /// check gets too.
     fn call(&mut self, case: &Case, state: &mut Vec<u8>, call: Call) -> Outcome<u32> {
         let mut expected_state = state.clone();
         let expected = second_answer(&case.judged, &mut expected_state, call);
@@ -147,9 +154,13 @@ impl<'a> Comparison<'a> {
         let whole = lent.guards_are_whole() && case.sheet.is_whole();
         let first = Said { answer, state: lent.bytes() };
         self.settle(case, state, first, Said { answer: expected, state: &expected_state }, whole)?;
-        if call == Call::NextOrder {
-            self.note_passed_over(case, &before, answer);
-            self.demand_no_stranding(case, &before, answer)?;
+        match call {
+            Call::Check => self.partner_too(case, answer)?,
+            Call::NextOrder => {
+                self.note_passed_over(case, &before, answer);
+                self.demand_no_stranding(case, &before, answer)?;
+            }
+            _ => {}
         }
         Ok(answer)
     }
@@ -285,6 +296,7 @@ impl<'a> Comparison<'a> {
             self.some_settlements(&case, &record, &mut dice)?;
         }
         match round % 8 {
+            1 => self.some_near_the_partners_limits(&mut dice),
             5 if !self.check_only => self.listings_beside_a_tanker(&mut dice),
             _ => Ok(()),
         }
@@ -319,6 +331,7 @@ fn shown_call(call: Call) -> String {
 fn shown_made(made: &Made) -> String {
     match made {
         Made::Call(call) => shown_call(*call),
+        Made::PartnerCheck => "the partner range's check".to_string(),
         Made::Block(block) => format!("reply block \"{}\"", block.escape_ascii()),
     }
 }
