@@ -246,6 +246,9 @@ static inline uint32_t campaign_stranded_booking(uint32_t place)
  * Is this a sheet that can be flown without being stranded?
  *
  * Accepted with place 0, or refused with 1 to 8. Writes nothing.
+ *
+ * A partner range's gateway, which takes fewer bookings and ways, has a check of
+ * its own, with the same answers where it takes the sheet: see partner.h.
  */
 uint32_t campaign_check(const uint8_t *sheet, size_t sheet_len);
 
