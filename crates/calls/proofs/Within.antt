@@ -6,19 +6,20 @@ use mathlib.Core.Bool.{Bool, true, false, cond}
 use mathlib.Core.List.{List}
 use Prim.Native.Nat.{ℕ, _≤_, _<_}
 use native.Mathlib.Omega.{arith}
-use lib.ListN.{length}
+use lib.ListN.{length, take}
 use Rattle.bounded.proofs.Bools.{which}
 use Rattle.plan.specs.Limits.{ours}
 use Rattle.plan.specs.Judging.{isFine, judgedRefusal, judgedPlace}
 use Rattle.plan.specs.declared.Limits.{Limits}
 use Rattle.plan.specs.declared.Judged.the-variants.{Oversize}
-use Rattle.plan.proofs.LimitLaws.{Counted}
+use Rattle.lines.specs.Form.{headBytes}
+use Rattle.lines.specs.Head.{bookingCountIn, wayCountIn}
 use Rattle.sheet.specs.Sheet.{refusedOf, sheetWithin, sheetOf, oversize}
 use Rattle.sheet.specs.Text.{longestWithin}
 use Rattle.sheet.specs.declared.Sheet.{Sheet}
 use Rattle.sheet.proofs.Places.{sheet-small}
 use Rattle.sheet.proofs.Within.{sheet-within, ours-few as few}
-use Rattle.sheet.proofs.Accepted.{sheet-counted}
+use Rattle.sheet.proofs.Accepted.{sheet-counted, sheet-bookings, sheet-way-count}
 use Rattle.sheet.proofs.ReadSheet.{sheet-bound}
 use Rattle.network.specs.FromPlan.{networkOf}
 use Rattle.verdict.specs.declared.Verdict.{Verdict}
@@ -92,8 +93,8 @@ module _ (most : Limits) (s : List ℕ) (e : checkWithin most s ≡ pack 6 0 0) 
     | inr f ↦ absurd (let x : judgedBits (sheetWithin most s .judged) ≡ 100663296 = rw f at e in omega (arith, judged-low (sheetWithin most s .judged) (sheet-small most s)))
   ]
 
-  pub accepted-counted : Counted most (sheetWithin most s .plan .n) (sheetWithin most s .plan .m) (sheetWithin most s .plan .a)
-  accepted-counted = sheet-counted most s fine
+  pub accepted-few : (bookingCountIn (take headBytes s) ≤ most .bookings) × (wayCountIn (take headBytes s) ≤ most .ways)
+  accepted-few = let c = sheet-counted most s fine in (rw (sheet-bookings most s fine) (c .bookings), rw (sheet-way-count most s fine) (c .ways))
 
   pub accepted-length : length s ≤ longestWithin most
   accepted-length = sheet-bound most s fine

@@ -53,6 +53,8 @@ pub record HeadIs (most : Limits) (line : List ℕ) (n m a limit : ℕ) : Type 0
   pub text : line ≡ headText n m a limit
   pub fit : limits n m a limit ≡ true
   pub taken : counted most n m a ≡ true
+  pub bookings : bookingCountIn line ≡ n
+  pub ways : wayCountIn line ≡ a
 
 pub head-accepted : (most : Limits) (line : List ℕ) (n m a limit : ℕ) → headOf most line ≡ H.Counts n m a limit → HeadIs most line n m a limit
 unfolding headOf isHead countsOf
@@ -70,7 +72,7 @@ head-accepted most line n m a limit =
         let y : linkCountIn line ≡ m = cc in
         let z : wayCountIn line ≡ a = cc in
         let o : limitIn line ≡ limit = cc in
-        record { text = h refl ∙ rw (x, y, z, o); fit = rw (x, y, z, o) at l; taken = rw (x, y, z) at t }
+        record { text = h refl ∙ rw (x, y, z, o); fit = rw (x, y, z, o) at l; taken = rw (x, y, z) at t; bookings = x; ways = z }
     go true true false h l t e = clash true refl cc
     go true false d h l t e = clash true refl cc
     go false c d h l t e = clash true refl cc

@@ -12,7 +12,7 @@ use Rattle.sheet.specs.Text.{longestWithin}
 use Rattle.guarantee.specs.Answers.{refusalOf}
 use Rattle.guarantee.proofs.Moved.{refusal-pack}
 use Rattle.calls.specs.Calls.{checkCall}
-use Rattle.calls.proofs.Within.{one-verdict, over-verdict, our-verdict, ours-few, only-over, accepted-counted, accepted-length, accepted-passes}
+use Rattle.calls.proofs.Within.{one-verdict, over-verdict, our-verdict, ours-few, only-over, accepted-few, accepted-length, accepted-passes}
 use Rattle.partner.specs.Partner.{theirs, partnerCall, OneVerdict, BothCalls}
 
 pub verdicts : (l m : Limits) (s : List ℕ) → OneVerdict l m s
@@ -32,7 +32,7 @@ module _ (s : List ℕ) where
     over = verdicts theirs theirs s .over;
     only = verdicts theirs theirs s .only;
     never = λ e. omega (arith, ours-few s);
-    few = λ e. let c = accepted-counted theirs s e in (c .bookings, c .ways);
+    few = accepted-few theirs s;
     short = accepted-length theirs s;
     passes = accepted-passes theirs s;
   }

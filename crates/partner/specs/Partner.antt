@@ -4,10 +4,12 @@ use mathlib.Core.Path.{_≡_}
 use mathlib.Core.Bool.{true, false}
 use mathlib.Core.List.{List}
 use Prim.Native.Nat.{ℕ, _≤_}
-use lib.ListN.{length}
+use lib.ListN.{length, take}
 use Rattle.plan.specs.Limits.{mostLinks}
 use Rattle.plan.specs.declared.Limits.{Limits}
-use Rattle.sheet.specs.Sheet.{oversize, sheetWithin}
+use Rattle.lines.specs.Form.{headBytes}
+use Rattle.lines.specs.Head.{bookingCountIn, wayCountIn}
+use Rattle.sheet.specs.Sheet.{oversize}
 use Rattle.guarantee.specs.Answers.{pack, refusalOf}
 use Rattle.calls.specs.Calls.{checkWithin, checkCall, sheetPasses}
 
@@ -37,7 +39,7 @@ pub record BothCalls (s : List ℕ) : Type 0 where
   pub only : refusalOf (partnerCall s) ≡ 16 → oversize theirs s ≡ true
   -- ours never is
   pub never : refusalOf (checkCall s) ≡ 16 → ⊥
-  -- a sheet that theirs accepts has at most 16 bookings, 4 ways and 5,610 bytes, and campaigns on it have our whole guarantee
-  pub few : partnerCall s ≡ pack 6 0 0 → (sheetWithin theirs s .plan .n ≤ 16) × (sheetWithin theirs s .plan .a ≤ 4)
+  -- a sheet that theirs accepts has at most 16 bookings and 4 ways, by its head line, and 5,610 bytes; and campaigns on it have our whole guarantee
+  pub few : partnerCall s ≡ pack 6 0 0 → (bookingCountIn (take headBytes s) ≤ 16) × (wayCountIn (take headBytes s) ≤ 4)
   pub short : partnerCall s ≡ pack 6 0 0 → length s ≤ 5610
   pub passes : partnerCall s ≡ pack 6 0 0 → sheetPasses s ≡ true

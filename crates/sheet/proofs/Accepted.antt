@@ -27,7 +27,7 @@ use Rattle.plan.proofs.LimitLaws.{Counted, counted-e, Limited, limited}
 use Rattle.plan.proofs.Valid.{Valid, valid, fine-i}
 use Rattle.plan.proofs.RecordLaws.{fine-is}
 use Rattle.lines.specs.Form.{headBytes, bookingBytes, linkBytes, linksPlace, waysPlace}
-use Rattle.lines.specs.Head.{headText, limitIn, headOf}
+use Rattle.lines.specs.Head.{headText, bookingCountIn, wayCountIn, limitIn, headOf}
 use Rattle.lines.specs.Booking.{kindIn, deskIn}
 use Rattle.lines.specs.Bookings.{bookingsText, letterOn, deskOn, noBookings}
 use Rattle.lines.specs.Links.{linksText, noLinks}
@@ -61,6 +61,8 @@ record Stages (s : List ℕ) : Type 0 where
 record Found (most : Limits) (s : List ℕ) : Type 0 where
   stages : Stages s
   taken : counted most (stages .n) (stages .m) (stages .a) ≡ true
+  bookings : bookingCountIn (take headBytes s) ≡ stages .n
+  ways : wayCountIn (take headBytes s) ≡ stages .a
   read : sheetWithin most s ≡ record { judged = Fine; plan = planIn (stages .n) (stages .m) (stages .a) (stages .limit) s }
 
 module _ (most : Limits) (s : List ℕ) where
@@ -88,6 +90,8 @@ module _ (most : Limits) (s : List ℕ) where
       end = eqb-true _ _ t;
     };
     taken = h .taken;
+    bookings = h .bookings;
+    ways = h .ways;
     read = e;
   }
   body-found n m a limit h true true true false k l v t e q = clash true refl (sym (rw e at q))
@@ -214,6 +218,15 @@ module _ (most : Limits) (s : List ℕ) (e : isFine (sheetWithin most s .judged)
   pub sheet-counted : Counted most (sheetWithin most s .plan .n) (sheetWithin most s .plan .m) (sheetWithin most s .plan .a)
   unfolding planIn
   sheet-counted = rw (← read-plan) (counted-e most (told .stages .n) (told .stages .m) (told .stages .a) (told .taken))
+
+  -- and its head has them
+  pub sheet-bookings : bookingCountIn (take headBytes s) ≡ sheetWithin most s .plan .n
+  unfolding planIn
+  sheet-bookings = rw (← read-plan) (told .bookings)
+
+  pub sheet-way-count : wayCountIn (take headBytes s) ≡ sheetWithin most s .plan .a
+  unfolding planIn
+  sheet-way-count = rw (← read-plan) (told .ways)
 
   -- an accepted sheet is the sheet of its plan
   pub sheet-accepted : sheetText (sheetWithin most s .plan) ≡ s
