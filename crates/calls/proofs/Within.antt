@@ -4,7 +4,7 @@ use mathlib.Core.Path.{_≡_, refl, sym, ap, _∙_}
 use mathlib.Core.Logic.{inl, inr}
 use mathlib.Core.Bool.{Bool, true, false, cond}
 use mathlib.Core.List.{List}
-use Prim.Native.Nat.{ℕ, _≤_, _<_}
+use Prim.Native.Nat.{ℕ, _+_, _≤_, _<_}
 use native.Mathlib.Omega.{arith}
 use lib.ListN.{length, take}
 use Rattle.bounded.proofs.Bools.{which}
@@ -21,6 +21,7 @@ use Rattle.sheet.proofs.Places.{sheet-small}
 use Rattle.sheet.proofs.Within.{sheet-within, ours-few as few}
 use Rattle.sheet.proofs.Accepted.{sheet-counted, sheet-bookings, sheet-way-count}
 use Rattle.sheet.proofs.ReadSheet.{sheet-bound}
+use Rattle.sheet.proofs.Front.{sheet-front}
 use Rattle.network.specs.FromPlan.{networkOf}
 use Rattle.verdict.specs.declared.Verdict.{Verdict}
 use Rattle.verdict.specs.declared.Verdict.the-variants.{Pass, Circular, Unclosed, Unused, Repeated, Stranding}
@@ -56,6 +57,11 @@ module _ (s : List ℕ) where
   -- so two callers that take it give one
   pub one-verdict : (l m : Limits) → oversize l s ≡ false → oversize m s ≡ false → checkWithin l s ≡ checkWithin m s
   one-verdict l m p q = our-verdict l p ∙ sym (our-verdict m q)
+
+-- what lies past the longest sheet that the caller takes does not count
+pub check-front : (most : Limits) (s : List ℕ) → checkWithin most (take (longestWithin most + 1) s) ≡ checkWithin most s
+unfolding checkWithin networkWithin
+check-front most s = ap answerTo (sheet-front most s)
 
 -- ---- 16 is given to no other sheet
 

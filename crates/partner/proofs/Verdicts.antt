@@ -12,7 +12,7 @@ use Rattle.sheet.specs.Text.{longestWithin}
 use Rattle.guarantee.specs.Answers.{refusalOf}
 use Rattle.guarantee.proofs.Moved.{refusal-pack}
 use Rattle.calls.specs.Calls.{checkCall}
-use Rattle.calls.proofs.Within.{one-verdict, over-verdict, our-verdict, ours-few, only-over, accepted-few, accepted-length, accepted-passes}
+use Rattle.calls.proofs.Within.{one-verdict, over-verdict, our-verdict, ours-few, only-over, check-front, accepted-few, accepted-length, accepted-passes}
 use Rattle.partner.specs.Partner.{theirs, partnerCall, OneVerdict, BothCalls}
 
 pub verdicts : (l m : Limits) (s : List ℕ) → OneVerdict l m s
@@ -35,4 +35,5 @@ module _ (s : List ℕ) where
     few = accepted-few theirs s;
     short = accepted-length theirs s;
     passes = accepted-passes theirs s;
+    front = check-front theirs s;
   }

@@ -43,3 +43,5 @@ pub record BothCalls (s : List ℕ) : Type 0 where
   pub few : partnerCall s ≡ pack 6 0 0 → (bookingCountIn (take headBytes s) ≤ 16) × (wayCountIn (take headBytes s) ≤ 4)
   pub short : partnerCall s ≡ pack 6 0 0 → length s ≤ 5610
   pub passes : partnerCall s ≡ pack 6 0 0 → sheetPasses s ≡ true
+  -- of any sheet the first 5,611 bytes decide, so a gateway needs to keep no more
+  pub front : partnerCall (take 5611 s) ≡ partnerCall s
