@@ -1,4 +1,4 @@
-// What the calls for C do: check, start, next order and reply on lent bytes, each answered in 32 bits. Crate campaign exports them.
+// What the calls for C do: check, start, next order and reply on lent bytes, each answered in 32 bits. Crate campaign exports them, crate partner the check with smaller limits.
 use network::Network;
 use plan::Judged;
 use plan::Limits;
