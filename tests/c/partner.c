@@ -88,10 +88,12 @@ static uint32_t both(const char *what, const void *sheet, size_t length)
 
 /* Sheets made by hand. */
 
-static const struct {
+struct made {
     const char *what, *sheet;
     uint32_t refusal, place;
-} alike[] = {
+};
+
+static const struct made alike[] = {
     {"tanker", "P   4   3   2   2\nB   1 C   1\nB   2 P   2\nB   3 C   2\nB   4 R   1\n"
                "L   1   2\nL   2   3\nL   2   4\nA   3   1   2   3\nA   3   1   2   4\n", 0, 0},
     {"one booking", "P   1   0   1   1\nB   1 D   8\nA   1   1\n", 0, 0},
@@ -134,10 +136,7 @@ static const struct {
 };
 
 /* 16 for the partner; what our check answers. */
-static const struct {
-    const char *what, *sheet;
-    uint32_t refusal, place;
-} turned_away[] = {
+static const struct made turned_away[] = {
     {"17 bookings", "P  17   0   1  64\n", CAMPAIGN_FORM, 2},
     {"5 ways", "P   1   0   5  64\n", CAMPAIGN_FORM, 2},
     {"17 bookings and 5 ways", "P  17   0   5   1\n", CAMPAIGN_FORM, 2},
