@@ -1,4 +1,6 @@
 // What the call of a block does: replies in lines of six bytes, taken one after the other up to the first bad line. Crate campaign exports it.
+#![tactic(auto)]
+
 ghost use Rattle.std.specs.Prelude.{◌≡◌, ◌≤◌, length};
 ghost use Rattle.run.specs.State.{standing};
 ghost use Rattle.run.specs.Bytes.{bytes_of, run_of};

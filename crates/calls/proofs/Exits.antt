@@ -1,7 +1,7 @@
 -- What the calls answer, and what they leave, at each of their exits.
 -- Assumes nothing.
 use mathlib.Core.Path.{◌≡◌, refl, sym, ap, subst, ◌∙◌}
-use mathlib.Core.Bool.{Bool, true, false, not, ◌&&◌, cond}
+use mathlib.Core.Bool.{Bool, true, false, not, cond}
 use mathlib.Core.Logic.{inl, inr}
 use mathlib.Core.List.{List}
 use Prim.Native.Nat.{ℕ, ◌≤◌, ◌<◌}
@@ -25,7 +25,7 @@ use Rattle.sheet.proofs.Places.{sheet-small}
 use Rattle.sheet.proofs.Accepted.{sheet-valid}
 use Rattle.network.specs.declared.Network.{Network}
 use Rattle.verdict.specs.declared.Verdict.{Verdict}
-use Rattle.network.specs.FromPlan.{network_of}
+use Rattle.network.specs.FromPlan.{network_of, Ends, Seated}
 use Rattle.network.proofs.Plans.{valid-fits}
 use Rattle.verdict.specs.Check.{check}
 use Rattle.run.specs.declared.Run.{Run}
@@ -38,8 +38,9 @@ use Rattle.guarantee.specs.Answers.{pack, check_bits, unsound}
 use Rattle.guarantee.specs.Machine.{Asked, answer, after}
 use Rattle.guarantee.specs.Calls.{call_bits, call_bytes}
 use Rattle.calls.specs.declared.Checked.{Checked}
+use Rattle.calls.specs.declared.Planned.{Planned}
 use Rattle.calls.specs.declared.Campaign.{Campaign}
-use Rattle.calls.specs.Calls.{network_within, network_in, passes, sheet_passes, judged_bits, check_within, no_network, judged_read, Readable, checked_within, checked_of, start_call, start_leaves, asked_call, asked_leaves, in_order, refused_with, turned_away, looked_at, taken_up}
+use Rattle.calls.specs.Calls.{network_within, network_in, passes, sheet_passes, judged_bits, check_within, no_network, planned_read, planned_within, checked_within, checked_of, start_call, start_leaves, asked_call, asked_leaves, in_order, refused_with, turned_away, looked_at, taken_up}
 
 -- the counts of a plan that reads are within the limits of every sheet
 pub fine-bounds : (most : Limits) (s : List ℕ) → is_fine (sheet_within most s).judged ≡ true → ((network_within most s).n ≤ 64) × ((network_within most s).a ≤ 16)
@@ -48,50 +49,75 @@ fine-bounds most s e = let v = sheet-valid most s e in (v.counts.bookings, v.cou
 
 -- ---- the sheet, read and checked
 
-module _ (j : Judged) (p : Plan) where
-  pub read-refused : (t : Bool) (x : ℕ) (g : Network) → t ≡ is_fine j → not t ≡ true → x ≡ judged_bits j → g ≡ no_network
-      → ◌≡◌ {A = Checked} (record { passes = false; bits = x; network = g; outline = outline_of p }) (judged_read j p)
-  unfolding judged_read
-  read-refused t x g f n q eg = let o : is_fine j ≡ false = sym f ∙ not-true t n in rw (o, q, eg)
+module _ (most : Limits) (s : List ℕ) where
+  pub checked-refused : (j : Judged) (t : Bool) (x : ℕ) (g : Network) → j ≡ (sheet_within most s).judged → t ≡ is_fine j → not t ≡ true → x ≡ judged_bits j → g ≡ no_network
+      → ◌≡◌ {A = Checked} (record { passes = false; bits = x; network = g }) (checked_within most s)
+  unfolding checked_within
+  checked-refused j t x g e f n q eg = let o : is_fine j ≡ false = sym f ∙ not-true t n in rw (← e, o, q, eg)
 
-  pub read-checked : (g : Network) (v : Verdict) (x : ℕ) (t : Bool) → is_fine j ≡ true → g ≡ network_of p → v ≡ check g → x ≡ check_bits v → t ≡ passes v
-      → ◌≡◌ {A = Checked} (record { passes = t; bits = x; network = g; outline = outline_of p }) (judged_read j p)
-  unfolding judged_read
-  read-checked g v x t f eg ev ex et = rw (f, et, ex, ev, eg)
+  pub checked-read : (g : Network) (v : Verdict) (x : ℕ) (t : Bool) → is_fine (sheet_within most s).judged ≡ true → g ≡ network_within most s → v ≡ check g → x ≡ check_bits v → t ≡ passes v
+      → ◌≡◌ {A = Checked} (record { passes = t; bits = x; network = g }) (checked_within most s)
+  unfolding checked_within
+  checked-read g v x t f eg ev ex et = rw (f, et, ex, ev, eg)
 
--- a plan that reads has what the check relies on
-valid-readable : (p : Plan) → Valid p → Readable p
-valid-readable p v = let f = valid-fits p v in record { bookings = f.0; ways = v.counts.ways; ends = f.1; seated = f.2 }
+  -- what was worked out has the answer of check
+  pub bits_is : (c : Checked) → c ≡ checked_within most s → c.bits ≡ check_within most s
+  unfolding checked_within check_within
+  bits_is c e = ap (λ (x : Checked). x.bits) e ∙ elim (which (is_fine (sheet_within most s).judged)) [ inl f ↦ rw f | inr f ↦ rw f ]
 
 -- a sheet read so that its links stand beside its plan
 module _ (most : Limits) (s : List ℕ) (r : Outlined) (us vs : List ℕ) (er : r ≡ outlined_of (sheet_within most s)) (eu : us ≡ (links_read most s).from) (ev : vs ≡ (links_read most s).to) where
-  plan-is : is_fine (sheet_within most s).judged ≡ true → plan_of r.outline us vs ≡ (sheet_within most s).plan
-  plan-is f = rw (er, eu, ev) (ap (λ (x : Sheet). x.plan) (read-fine most s f))
+  pub read-fits : judged_place r.judged < 65536
+  read-fits = rw er (sheet-small most s)
 
-  pub can-judge : (judged_place r.judged < 65536) × (is_fine r.judged ≡ true → Readable (plan_of r.outline us vs))
-  can-judge = (rw er (sheet-small most s), λ e. let f = rw er at e in subst Readable (sym (plan-is f)) (valid-readable _ (sheet-valid most s f)))
+  pub read-refused : (t : Bool) (x : ℕ) (g : Network) → t ≡ is_fine r.judged → t ≡ false → x ≡ judged_bits r.judged → g ≡ no_network
+      → ◌≡◌ {A = Planned} (record { passes = false; bits = x; network = g; outline = r.outline }) (planned_within most s)
+  unfolding planned_read
+  read-refused t x g f n q eg = let o : is_fine (sheet_within most s).judged ≡ false = rw er at (sym f ∙ n) in rw (o, q, eg, er)
 
-  -- if it does not read, its links do not matter
-  pub judged-is : judged_read r.judged (plan_of r.outline us vs) ≡ checked_within most s
-  unfolding checked_within judged_read
-  judged-is = elim (which (is_fine (sheet_within most s).judged)) [ inl f ↦ rw (plan-is f, er, f) | inr f ↦ rw (er, f) ]
+  module _ (t : Bool) (f : t ≡ is_fine r.judged) (y : t ≡ true) where
+    fine : is_fine (sheet_within most s).judged ≡ true
+    fine = rw er at (sym f ∙ y)
 
--- what was worked out has the answer of check
-pub bits_is : (most : Limits) (s : List ℕ) (c : Checked) → c ≡ checked_within most s → c.bits ≡ check_within most s
-unfolding checked_within judged_read check_within network_within
-bits_is most s c e = ap (λ (x : Checked). x.bits) e ∙ elim (which (is_fine (sheet_within most s).judged)) [ inl f ↦ rw f | inr f ↦ rw f ]
+    plan-is : plan_of r.outline us vs ≡ (sheet_within most s).plan
+    plan-is = rw (er, eu, ev) (ap (λ (x : Sheet). x.plan) (read-fine most s fine))
 
--- and the plan but for its links
-pub outline-is : (most : Limits) (s : List ℕ) (c : Checked) → c ≡ checked_within most s → c.outline ≡ outline_of (sheet_within most s).plan
-unfolding checked_within judged_read
-outline-is most s c e = ap (λ (x : Checked). x.outline) e ∙ elim (which (is_fine (sheet_within most s).judged)) [ inl f ↦ rw f | inr f ↦ rw f ]
+    -- what the check of the plan relies on
+    pub can-network : (r.outline.n ≤ 64) × Ends r.outline.n us vs r.outline.m × Seated r.outline.n r.outline.desk
+    can-network = subst (λ (p : Plan). (p.n ≤ 64) × Ends p.n p.from p.to p.m × Seated p.n p.desk) (sym plan-is) (valid-fits _ (sheet-valid most s fine))
+
+    module _ (g : Network) (eg : g ≡ network_of (plan_of r.outline us vs)) where
+      network-read : g ≡ network_within most s
+      unfolding network_within
+      network-read = eg ∙ ap network_of plan-is
+
+      pub can-check : (g.n ≤ 64) × (g.a ≤ 16)
+      can-check = rw network-read (fine-bounds most s fine)
+
+      pub read-checked : (v : Verdict) (x : ℕ) (k : Bool) → v ≡ check g → x ≡ check_bits v → k ≡ passes v
+          → ◌≡◌ {A = Planned} (record { passes = k; bits = x; network = g; outline = r.outline }) (planned_within most s)
+      unfolding planned_read network_within
+      read-checked v x k ev ex ek = rw (fine, ek, ex, ev, network-read, er)
+
+-- what was worked out with the plan is what is worked out without it
+module _ (most : Limits) (s : List ℕ) (c : Planned) (e : c ≡ planned_within most s) where
+  pub planned-checked : ◌≡◌ {A = Checked} (record { passes = c.passes; bits = c.bits; network = c.network }) (checked_within most s)
+  unfolding planned_read checked_within network_within
+  planned-checked = rw e (elim (which (is_fine (sheet_within most s).judged)) [ inl f ↦ rw f | inr f ↦ rw f ])
+
+  pub outline-is : c.outline ≡ outline_of (sheet_within most s).plan
+  unfolding planned_read
+  outline-is = rw e (elim (which (is_fine (sheet_within most s).judged)) [ inl f ↦ rw f | inr f ↦ rw f ])
+
+  pub planned-bits : c.bits ≡ check_within most s
+  planned-bits = bits_is most s _ planned-checked
 
 -- ---- our sheet
 
 module _ (s : List ℕ) where
   module _ (c : Checked) (e : c ≡ checked_of s) where
     passes-is : c.passes ≡ sheet_passes s
-    unfolding checked_within judged_read sheet_passes network_within
+    unfolding checked_within sheet_passes
     passes-is = ap (λ (x : Checked). x.passes) e ∙ elim (which (is_fine (sheet_of s).judged)) [ inl f ↦ rw f | inr f ↦ rw f ]
 
     -- the sheet is refused
@@ -113,7 +139,7 @@ module _ (s : List ℕ) where
       reads = and_l (is_fine (sheet_of s).judged) _ holds
 
       pub network-is : c.network ≡ network_in s
-      unfolding checked_within judged_read network_within
+      unfolding checked_within
       network-is = ap (λ (x : Checked). x.network) e ∙ rw reads refl
 
       pub bounded : (c.network.n ≤ 64) × (c.network.a ≤ 16)

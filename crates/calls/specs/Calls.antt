@@ -1,7 +1,7 @@
 -- The four calls of the dispatcher on lent bytes: what each gives back, and what it leaves in the state.
 -- The sheet's refusals come first, then 11, then 9; a refused call leaves every byte as it was.
 -- Assumes nothing.
-use Rattle.std.specs.Prelude.{Bool, true, false, ◌&&◌, cond, List, ℕ, suc, ◌+◌, ◌≤◌, eqb, length, replicate}
+use Rattle.std.specs.Prelude.{Bool, true, false, ◌&&◌, cond, List, ℕ, suc, ◌+◌, eqb, length, replicate}
 use Rattle.plan.specs.Limits.{ours}
 use Rattle.plan.specs.Judging.{is_fine, judged_refusal, judged_place}
 use Rattle.plan.specs.Outline.{outline_of}
@@ -11,7 +11,7 @@ use Rattle.plan.specs.declared.Plan.{Plan}
 use Rattle.sheet.specs.Sheet.{sheet_within, sheet_of}
 use Rattle.network.specs.declared.Network.{Network}
 use Rattle.verdict.specs.declared.Verdict.{Verdict}
-use Rattle.network.specs.FromPlan.{network_of, Ends, Seated}
+use Rattle.network.specs.FromPlan.{network_of}
 use Rattle.verdict.specs.Check.{check, verdict_number}
 use Rattle.run.specs.State.{start, standing}
 use Rattle.run.specs.Bytes.{bytes_of, run_of, sound_bytes}
@@ -22,6 +22,7 @@ use Rattle.guarantee.specs.Answers.{pack, check_bits, unsound}
 use Rattle.guarantee.specs.Machine.{Asked}
 use Rattle.guarantee.specs.Calls.{call_bits, call_bytes}
 use Rattle.calls.specs.declared.Checked.{Checked}
+use Rattle.calls.specs.declared.Planned.{Planned}
 use Rattle.calls.specs.declared.Campaign.{Campaign}
 
 -- the plan that a sheet holds, as the rules see it: to a caller with such limits, and to us
@@ -54,24 +55,29 @@ check_call s = check_within ours s
 unfoldable pub no_network : Network
 no_network = record { n = 0; a = 0; way = replicate 16 0; before = replicate 64 0; firm = 0; exposed = 0; desk = replicate 8 0; limit = 0 }
 
-abbrev pub judged_as : Verdict → Network → Plan → Checked
-judged_as v g p = record { passes = passes v; bits = check_bits v; network = g; outline = outline_of p }
-
-unfoldable pub judged_read : Judged → Plan → Checked
-judged_read j p = cond (is_fine j) (judged_as (check (network_of p)) (network_of p) p) (record { passes = false; bits = judged_bits j; network = no_network; outline = outline_of p })
+abbrev pub judged_as : Verdict → Network → Checked
+judged_as v g = record { passes = passes v; bits = check_bits v; network = g }
 
 unfoldable pub checked_within : Limits → List ℕ → Checked
-checked_within most s = judged_read (sheet_within most s).judged (sheet_within most s).plan
-
--- what the check of a plan relies on
-pub record Readable (p : Plan) : Type 0 where
-  pub bookings : p.n ≤ 64
-  pub ways : p.a ≤ 16
-  pub ends : Ends p.n p.from p.to p.m
-  pub seated : Seated p.n p.desk
+checked_within most s =
+    cond (is_fine (sheet_within most s).judged) (judged_as (check (network_within most s)) (network_within most s))
+    (record { passes = false; bits = judged_bits (sheet_within most s).judged; network = no_network })
 
 abbrev pub checked_of : List ℕ → Checked
 checked_of s = checked_within ours s
+
+-- the same, and the plan but for its links
+abbrev pub planned_as : Verdict → Network → Plan → Planned
+planned_as v g p = record { passes = passes v; bits = check_bits v; network = g; outline = outline_of p }
+
+unfoldable pub planned_read : Judged → Plan → Planned
+planned_read j p = cond (is_fine j) (planned_as (check (network_of p)) (network_of p) p) (record { passes = false; bits = judged_bits j; network = no_network; outline = outline_of p })
+
+abbrev pub planned_within : Limits → List ℕ → Planned
+planned_within most s = planned_read (sheet_within most s).judged (sheet_within most s).plan
+
+abbrev pub planned_of : List ℕ → Planned
+planned_of s = planned_within ours s
 
 -- start: it looks at no old byte of the state, only at how many there are
 unfoldable pub start_call : List ℕ → List ℕ → ℕ

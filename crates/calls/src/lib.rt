@@ -1,15 +1,16 @@
 // What the calls for C do: check, start, next order and reply on lent bytes, each answered in 32 bits. Crate campaign exports them, crate partner the check with smaller limits.
+#![tactic(auto)]
+
 ghost use Rattle.std.specs.Prelude.{◌≡◌, true, ◌≤◌, ◌<◌};
 ghost use Rattle.plan.specs.Limits.{ours};
-ghost use Rattle.plan.specs.Judging.{is_fine, judged_place};
-ghost use Rattle.plan.specs.Outline.{plan_of};
+ghost use Rattle.plan.specs.Judging.{judged_place};
 ghost use Rattle.lines.specs.Links.{no_links};
 ghost use Rattle.sheet.specs.Outlined.{links_read};
 ghost use Rattle.verdict.specs.Check.{verdict_place};
 ghost use Rattle.run.specs.State.{standing};
 ghost use Rattle.guarantee.specs.Answers.{pack, order_bits, place9, reply_bits, check_bits};
 ghost use Rattle.guarantee.specs.Machine.{next_order, replied, reply_to};
-ghost use Rattle.calls.specs.Calls.{no_network, passes, judged_bits, judged_read, Readable, checked_within, checked_of, order_kind, order_booking, order_way, order_place, check_call, start_call, start_leaves, asked_call, asked_leaves, turned_away, taken_up};
+ghost use Rattle.calls.specs.Calls.{no_network, passes, judged_bits, planned_within, planned_of, checked_within, checked_of, order_kind, order_booking, order_way, order_place, check_call, start_call, start_leaves, asked_call, asked_leaves, turned_away, taken_up};
 
 use network::Network;
 use plan::{Judged, Limits, Outline};
@@ -17,9 +18,17 @@ use run::{Order, Replied, Run};
 use standing::Standing;
 use verdict::Verdict;
 
-// What is worked out of a sheet before anything else: whether it passes, what check answers, what the rules look at, and its plan but for the links.
-#[derive(Drop)]
+// What is worked out of a sheet before anything else: whether it passes, what check answers, and what the rules look at.
+#[derive(Clone, Copy)]
 pub struct Checked {
+    pub passes: bool,
+    pub bits: u32,
+    pub network: Network,
+}
+
+// The same, and its plan but for the links.
+#[derive(Clone, Copy)]
+pub struct Planned {
     pub passes: bool,
     pub bits: u32,
     pub network: Network,
@@ -27,7 +36,7 @@ pub struct Checked {
 }
 
 // A campaign taken up for a step: whether its sheet passes and its state is sound, what is answered if not, and what the rules look at.
-#[derive(Drop)]
+#[derive(Clone, Copy)]
 pub struct Campaign {
     pub sound: bool,
     pub bits: u32,
@@ -162,15 +171,24 @@ fn no_network() -> Network
     }
 }
 
-// Checks what was read of a sheet; the links stand beside it.
-fn judge_read(judged: Judged, outline: Outline, from: &[u8; 512], to: &[u8; 512]) -> Checked
-    requires { (judged_place judged < 65536) × (is_fine judged ≡ true → Readable (plan_of outline from.now to.now)) }
-    ensures { result ≡ judged_read judged (plan_of outline from.now to.now) }
+// Reads a sheet for a caller with such limits and checks its plan; the links go into two lent arrays, which come empty.
+fn judge_plan_within(
+    sheet: &[u8],
+    most: Limits,
+    from: &mut [u8; 512],
+    to: &mut [u8; 512],
+) -> Planned
+    requires { (from.old ≡ no_links) × (to.old ≡ no_links) }
+    ensures told { result ≡ planned_within most sheet.now }
+    ensures left { (from.new ≡ (links_read most sheet.now).from) × (to.new ≡ (links_read most sheet.now).to) }
 {
+    let read = sheet::read_outline(sheet, most, from, to);
+    let judged = read.judged;
+    let outline = read.outline;
     if !plan::is_fine(judged) {
         let bits = judged_bits(judged);
         let network = no_network();
-        return Checked {
+        return Planned {
             passes: false,
             bits,
             network,
@@ -181,7 +199,7 @@ fn judge_read(judged: Judged, outline: Outline, from: &[u8; 512], to: &[u8; 512]
     let v = verdict::check(network);
     let bits = check_bits(v);
     let passes = is_pass(v);
-    Checked {
+    Planned {
         passes,
         bits,
         network,
@@ -189,27 +207,10 @@ fn judge_read(judged: Judged, outline: Outline, from: &[u8; 512], to: &[u8; 512]
     }
 }
 
-// Reads a sheet for a caller with such limits and checks its plan; the links go into two lent arrays, which come empty.
-fn judge_plan_within(
-    sheet: &[u8],
-    most: Limits,
-    from: &mut [u8; 512],
-    to: &mut [u8; 512],
-) -> Checked
-    requires { (from.old ≡ no_links) × (to.old ≡ no_links) }
-    ensures told { result ≡ checked_within most sheet.now }
-    ensures left { (from.new ≡ (links_read most sheet.now).from) × (to.new ≡ (links_read most sheet.now).to) }
-{
-    let read = sheet::read_outline(sheet, most, from, to);
-    let judged = read.judged;
-    let outline = read.outline;
-    judge_read(judged, outline, from, to)
-}
-
 // The same for us.
-pub fn judge_plan(sheet: &[u8], from: &mut [u8; 512], to: &mut [u8; 512]) -> Checked
+pub fn judge_plan(sheet: &[u8], from: &mut [u8; 512], to: &mut [u8; 512]) -> Planned
     requires { (from.old ≡ no_links) × (to.old ≡ no_links) }
-    ensures told { result ≡ checked_within ours sheet.now }
+    ensures told { result ≡ planned_of sheet.now }
     ensures left { (from.new ≡ (links_read ours sheet.now).from) × (to.new ≡ (links_read ours sheet.now).to) }
 {
     judge_plan_within(sheet, plan::ours(), from, to)
@@ -221,16 +222,19 @@ pub fn judge_within(sheet: &[u8], most: Limits) -> Checked
 {
     let mut from = [0u8; 512];
     let mut to = [0u8; 512];
-    judge_plan_within(sheet, most, &mut from, &mut to)
+    let planned = judge_plan_within(sheet, most, &mut from, &mut to);
+    Checked {
+        passes: planned.passes,
+        bits: planned.bits,
+        network: planned.network,
+    }
 }
 
 // Reads a sheet of ours and checks its plan.
 pub fn judge_sheet(sheet: &[u8]) -> Checked
     ensures { result ≡ checked_of sheet.now }
 {
-    let mut from = [0u8; 512];
-    let mut to = [0u8; 512];
-    judge_plan(sheet, &mut from, &mut to)
+    judge_within(sheet, plan::ours())
 }
 
 // ---- sheets

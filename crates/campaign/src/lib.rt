@@ -1,4 +1,6 @@
-// The calls for C: the functions that the archive exports. Each is thin; what it does stands in a crate below.
+// The calls, as C has them: crate campaign_c exports each. Each is thin; what it does stands in a crate below.
+#![tactic(auto)]
+
 ghost use Rattle.std.specs.Prelude.{◌≡◌, length};
 ghost use Rattle.guarantee.specs.Machine.{next_order, replied};
 ghost use Rattle.calls.specs.Calls.{check_call, start_call, start_leaves, asked_call, asked_leaves};
@@ -12,16 +14,14 @@ ghost use Rattle.join_calls.specs.Join.{join_call, join_leaves};
 // ---- sheets
 
 // Judges a sheet: accepted, or the first of refusals 1 to 8 with its place.
-#[unsafe(no_mangle)]
-pub extern "C" fn campaign_check(sheet: &[u8]) -> u32
+pub fn campaign_check(sheet: &[u8]) -> u32
     ensures { result ≡ check_call sheet.now }
 {
     calls::check(sheet)
 }
 
 // Joins two sheets into one: the second plan's bookings and links after the first's, and every pair of ways.
-#[unsafe(no_mangle)]
-pub extern "C" fn campaign_join(first: &[u8], second: &[u8], joined: &mut [u8]) -> u32
+pub fn campaign_join(first: &[u8], second: &[u8], joined: &mut [u8]) -> u32
     ensures answer { result ≡ join_call first.now second.now (length joined.old) }
     ensures left { joined.new ≡ join_leaves first.now second.now joined.old }
 {
@@ -31,8 +31,7 @@ pub extern "C" fn campaign_join(first: &[u8], second: &[u8], joined: &mut [u8]) 
 // ---- the run
 
 // Begins a campaign: writes the first state over the 65 lent bytes.
-#[unsafe(no_mangle)]
-pub extern "C" fn campaign_start(sheet: &[u8], state: &mut [u8]) -> u32
+pub fn campaign_start(sheet: &[u8], state: &mut [u8]) -> u32
     ensures answer { result ≡ start_call sheet.now state.old }
     ensures left { state.new ≡ start_leaves sheet.now state.old }
 {
@@ -40,8 +39,7 @@ pub extern "C" fn campaign_start(sheet: &[u8], state: &mut [u8]) -> u32
 }
 
 // Gives the next order to send, or a wait or the end, and the state after it.
-#[unsafe(no_mangle)]
-pub extern "C" fn campaign_next_order(sheet: &[u8], state: &mut [u8]) -> u32
+pub fn campaign_next_order(sheet: &[u8], state: &mut [u8]) -> u32
     ensures answer { result ≡ asked_call sheet.now state.old next_order }
     ensures left { state.new ≡ asked_leaves sheet.now state.old next_order }
 {
@@ -49,8 +47,7 @@ pub extern "C" fn campaign_next_order(sheet: &[u8], state: &mut [u8]) -> u32
 }
 
 // Takes a desk's reply: Y or N to a request, G or K to a return.
-#[unsafe(no_mangle)]
-pub extern "C" fn campaign_reply(sheet: &[u8], state: &mut [u8], letter: u8, booking: u32) -> u32
+pub fn campaign_reply(sheet: &[u8], state: &mut [u8], letter: u8, booking: u32) -> u32
     ensures answer { result ≡ asked_call sheet.now state.old (replied letter booking) }
     ensures left { state.new ≡ asked_leaves sheet.now state.old (replied letter booking) }
 {
@@ -58,8 +55,7 @@ pub extern "C" fn campaign_reply(sheet: &[u8], state: &mut [u8], letter: u8, boo
 }
 
 // Takes the replies of a block, up to its first bad line.
-#[unsafe(no_mangle)]
-pub extern "C" fn campaign_reply_block(sheet: &[u8], block: &[u8], state: &mut [u8]) -> u32
+pub fn campaign_reply_block(sheet: &[u8], block: &[u8], state: &mut [u8]) -> u32
     ensures answer { result ≡ block_call sheet.now block.now state.old }
     ensures left { state.new ≡ block_leaves sheet.now block.now state.old }
 {
@@ -67,8 +63,7 @@ pub extern "C" fn campaign_reply_block(sheet: &[u8], block: &[u8], state: &mut [
 }
 
 // Writes the listing of the ways before the current one at the front of the lent bytes: why each is out.
-#[unsafe(no_mangle)]
-pub extern "C" fn campaign_passed_ways(sheet: &[u8], state: &[u8], listing: &mut [u8]) -> u32
+pub fn campaign_passed_ways(sheet: &[u8], state: &[u8], listing: &mut [u8]) -> u32
     ensures answer { result ≡ passed_call sheet.now state.now (length listing.old) }
     ensures left { listing.new ≡ passed_leaves sheet.now state.now listing.old }
 {
@@ -78,8 +73,7 @@ pub extern "C" fn campaign_passed_ways(sheet: &[u8], state: &[u8], listing: &mut
 // ---- the journal
 
 // Writes the line of an order or a reply at the front of the lent bytes.
-#[unsafe(no_mangle)]
-pub extern "C" fn campaign_journal_line(letter: u8, booking: u32, line: &mut [u8]) -> u32
+pub fn campaign_journal_line(letter: u8, booking: u32, line: &mut [u8]) -> u32
     ensures answer { result ≡ journal_line_call letter booking (length line.old) }
     ensures left { line.new ≡ journal_line_leaves letter booking line.old }
 {
@@ -87,8 +81,7 @@ pub extern "C" fn campaign_journal_line(letter: u8, booking: u32, line: &mut [u8
 }
 
 // Gives the state that follows the whole lines of a journal.
-#[unsafe(no_mangle)]
-pub extern "C" fn campaign_restart(sheet: &[u8], journal: &[u8], state: &mut [u8]) -> u32
+pub fn campaign_restart(sheet: &[u8], journal: &[u8], state: &mut [u8]) -> u32
     ensures answer { result ≡ restart_call sheet.now journal.now state.old }
     ensures left { state.new ≡ restart_leaves sheet.now journal.now state.old }
 {
@@ -98,13 +91,7 @@ pub extern "C" fn campaign_restart(sheet: &[u8], journal: &[u8], state: &mut [u8
 // ---- accounts
 
 // Writes the bill of a plan sheet, a fee sheet and a journal at the front of the lent bytes.
-#[unsafe(no_mangle)]
-pub extern "C" fn campaign_settle(
-    sheet: &[u8],
-    fees: &[u8],
-    journal: &[u8],
-    report: &mut [u8],
-) -> u32
+pub fn campaign_settle(sheet: &[u8], fees: &[u8], journal: &[u8], report: &mut [u8]) -> u32
     ensures answer { result ≡ settle_call sheet.now fees.now journal.now (length report.old) }
     ensures left { report.new ≡ settle_leaves sheet.now fees.now journal.now report.old }
 {

@@ -1,4 +1,6 @@
 // Which sheets are clear of the first refusals: those that check does not refuse with one of 1 to k.
+#![tactic(auto)]
+
 ghost use Rattle.std.specs.Prelude.{◌≡◌};
 ghost use Rattle.clear.specs.Clear.{clear_bits};
 

@@ -2,28 +2,20 @@
 -- Assumes nothing.
 use Prim.Native.Nat.{ℕ, ◌+◌, ◌^◌, ◌<◌}
 use mathlib.Core.Path.{◌≡◌, sym, ap, ◌∙◌}
-use mathlib.Core.Logic.{inl, inr}
-use mathlib.Core.List.{List, [], ◌∷◌, ◌++◌}
-use native.Mathlib.Omega.{arith}
-use types.Run.{OneOf}
-use denote.Enum.Declared.{tag_of}
+use mathlib.Core.List.{List, ◌++◌}
 use lib.ListN.{take, drop, take-append-drop}
 use lib.Seq.{drop-drop, take_at}
 use Rattle.decimal.specs.Decimal.{columns, field_text, field_at, number_at}
 use Rattle.decimal.specs.declared.Field.{Field}
-use Rattle.decimal.specs.declared.Field.TheVariants.{Number, Blank, Fault}
-use Rattle.decimal.specs.contracts.Field.{the_type}
+use Rattle.decimal.specs.declared.Field.TheVariants.{Number, Fault}
 use Rattle.decimal.proofs.Laws.{Reads, read-written, value_written, columns-number, columns-length, written_read, own-text}
 
--- what the else of a reader's `let Field::Number(y) = f else` is told: by its number the variant is Blank or Fault
+-- what the else of a reader's `let Field::Number(y) = f else` is told
 abbrev pub NoNumber : Field → Type 0
-NoNumber f = OneOf (1 ∷ 2 ∷ []) (tag_of the_type f)
+NoNumber f = (y : ℕ) → f ≡ Number y → ⊥
 
 pub no_number : (f : Field) → NoNumber f → (y : ℕ) → f ≡ Number y → ⊥
-no_number (Number x) (inl t) y e = omega arith
-no_number (Number x) (inr t) y e = omega arith
-no_number Blank t y e = let z : ◌≡◌ {A = ℕ} 0 1 = cc in omega arith
-no_number Fault t y e = let z : ◌≡◌ {A = ℕ} 0 1 = cc in omega arith
+no_number f n = n
 
 module _ (w at : ℕ) (line : List ℕ) (f : Field) (e : f ≡ field_at w at line) where
   -- a line that has a blank or a fault there is no text that has the number's columns there

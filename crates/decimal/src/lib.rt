@@ -1,12 +1,14 @@
 // A decimal number in columns of a given width: read from a part of a text, written into a lent buffer. With it the parts of a
 // text, and the copying of bytes, that readers and writers of lines need.
+#![tactic(auto)]
+
 ghost use Rattle.std.specs.Prelude.{◌≡◌, [], ◌∷◌, false, ◌&&◌, ◌+◌, ◌-◌, ◌%◌, ◌^◌, ◌≤◌, ◌<◌, eqb, leb, ltb, length, get_or, take, drop};
 ghost use Rattle.std.proofs.lemmas.List.Edits.{sets};
 ghost use Rattle.bounded.specs.Bounded.{first};
 ghost use Rattle.decimal.specs.Decimal.{begun, column, columns, same_bytes, spaces, unread_of, field_of, field_at};
 
 // What a number field holds.
-#[derive(Drop)]
+#[derive(Clone, Copy)]
 pub enum Field {
     Number(usize),
     Blank,

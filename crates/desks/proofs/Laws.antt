@@ -2,7 +2,7 @@
 -- Assumes nothing.
 use mathlib.Core.Path.{◌≡◌, refl, sym, ap, ◌∙◌}
 use mathlib.Core.Logic.{◌≢◌, inl, inr}
-use mathlib.Core.Bool.{Bool, true, false, not, ◌||◌, cond}
+use mathlib.Core.Bool.{Bool, true, false, ◌||◌, cond}
 use mathlib.Core.List.{List}
 use Prim.Native.Nat.{ℕ, ◌+◌, ◌^◌, ◌≤◌, ◌<◌}
 use native.Mathlib.Omega.{arith}
@@ -10,7 +10,7 @@ use lib.Dec.{leb}
 use lib.Bits.{bit_and, bit_or}
 use lib.ListN.{get_or}
 use borrow.Author.Tests.{leb-true, le-leb, lt-leb}
-use Rattle.bounded.specs.Bounded.{any, all}
+use Rattle.bounded.specs.Bounded.{any}
 use Rattle.bounded.proofs.Bools.{clash, off, split?, which, and_l, or-false, ◌&◌}
 use Rattle.bounded.proofs.Tests.{all-e, all-i, any-i, any-o, any-suc}
 use Rattle.bounded.proofs.Loops.{AllFar, all-far-more, all-call, all-over}

@@ -1,5 +1,7 @@
 // How much each of eight desks has open: which bookings are at a full desk, and whether a desk is above the limit.
 // A desk is the set of its bookings, and the open matters are one set of bookings.
+#![tactic(auto)]
+
 ghost use Rattle.std.specs.Prelude.{◌≡◌, cond, leb};
 ghost use Rattle.std.specs.Int.Bits.{bit_and, bit_or};
 ghost use Rattle.sets.specs.Sets.{size_of};

@@ -1,4 +1,6 @@
 // The drill on the Tanker flight, flown by its second way.
-fn main() {
-    drill_run::run();
+#![tactic(auto)]
+
+fn main(rt: HostRuntime) {
+    drill_run::run(&rt);
 }

@@ -1,4 +1,6 @@
 // The lines that the drill prints of an answer, and what the drill does after it.
+#![tactic(auto)]
+
 ghost use Rattle.std.specs.Prelude.{◌≡◌, ◌≤◌, length};
 ghost use Rattle.std.proofs.lemmas.List.Edits.{sets};
 ghost use Rattle.guarantee.specs.Answers.{kind_of, place_of};
@@ -6,7 +8,7 @@ ghost use Rattle.drill_lines.specs.Printed.{refusal_of, letter_of, refusal_text,
 ghost use Rattle.drill_lines.specs.Steps.{step_of};
 
 // What the drill does after an answer.
-#[derive(Drop)]
+#[derive(Clone, Copy)]
 pub enum Step {
     TakeOrder,
     ReadReply,

@@ -1,4 +1,6 @@
 // The drill: the sheet from plan.txt, replies from standard input, and each answer of the calls printed.
+#![tactic(auto)]
+
 ghost use Rattle.std.specs.Prelude.{◌≡◌};
 ghost use Rattle.event_lines.specs.Line.{line_of};
 ghost use Rattle.drill_run.specs.Drilled.{heard_of, heard_leaves, HeardAs, Played, DrilledFromStart};
@@ -6,58 +8,58 @@ ghost use Rattle.drill_run.specs.Drilled.{heard_of, heard_leaves, HeardAs, Playe
 use drill_lines::Step;
 use event_lines::Line;
 use files::{Found, Got};
-use libc::STDIN_FILENO;
 
 // The answer of the call that a reply led to, or nothing: the input has ended or cannot be read, or what stands there is no reply.
-#[derive(Drop)]
+#[derive(Clone, Copy)]
 enum Heard {
     Answer(u32),
     Nothing,
 }
 
 // Prints the line of an answer, if it has one, and gives whether it could be written.
-fn print_answer(bits: u32) -> bool {
+fn print_answer(rt: &HostRuntime, bits: u32) -> bool {
     let mut line = [0u8; 12];
     let n = drill_lines::write_answer(&mut line, bits);
-    files::print(b"drill: an answer could not be written", &line[..n])
+    files::print(rt, b"drill: an answer could not be written", &line[..n])
 }
 
 // Prints that reply `number` is not of its form.
-fn print_misformed(number: usize) {
+fn print_misformed(rt: &HostRuntime, number: usize) {
     let mut line = [0u8; 12];
     let n = drill_lines::write_refusal(&mut line, 1, number);
-    files::print(b"drill: a refusal could not be written", &line[..n]);
+    files::print(rt, b"drill: a refusal could not be written", &line[..n]);
 }
 
 // Hands on a line that stands as reply `number`, or prints that it is none.
-fn hand_on(sheet: &[u8], state: &mut [u8], line: &[u8], number: usize) -> Heard
+fn hand_on(rt: &HostRuntime, sheet: &[u8], state: &mut [u8], line: &[u8], number: usize) -> Heard
     ensures answer { result ≡ heard_of sheet.now state.old (line_of line.now) }
     ensures left { state.new ≡ heard_leaves sheet.now state.old (line_of line.now) }
 {
     let Line::Given(letter, booking) = event_lines::read_line(line) else {
-        print_misformed(number);
+        print_misformed(rt, number);
         return Heard::Nothing;
     };
     Heard::Answer(campaign::campaign_reply(sheet, state, letter, booking))
 }
 
 // Reads reply `number`, if the input has not ended, and hands it on. Bytes before a read that fails are no reply.
-fn hear(sheet: &[u8], state: &mut [u8], number: usize) -> Heard
+fn hear(rt: &HostRuntime, sheet: &[u8], state: &mut [u8], number: usize) -> Heard
     ensures { HeardAs sheet.now state.old result state.new }
 {
     let mut line = [0u8; 6];
-    let Got::Bytes(n) = files::read_open(b"drill: standard input", STDIN_FILENO, &mut line) else {
+    let Got::Bytes(n) = files::read_open(rt, b"drill: standard input", &mut rt.stdin(), &mut line)
+    else {
         return Heard::Nothing;
     };
     if n == 0 {
         return Heard::Nothing;
     }
-    hand_on(sheet, state, &line[..n], number)
+    hand_on(rt, sheet, state, &line[..n], number)
 }
 
 // Goes on from the answer of start, call after call, until nothing more is asked for or an answer cannot be printed. A proved loop has to
 // end, and nothing says that the input does: so the turns are counted down from a number that no run uses up.
-fn play(sheet: &[u8], state: &mut [u8], started: u32)
+fn play(rt: &HostRuntime, sheet: &[u8], state: &mut [u8], started: u32)
     ensures { Played sheet.now started state.old state.new }
 {
     let mut bits = started;
@@ -65,7 +67,7 @@ fn play(sheet: &[u8], state: &mut [u8], started: u32)
     let mut turns = usize::MAX;
     while turns > 0 {
         turns -= 1;
-        if !print_answer(bits) {
+        if !print_answer(rt, bits) {
             return;
         }
         match drill_lines::after_answer(bits) {
@@ -74,7 +76,7 @@ fn play(sheet: &[u8], state: &mut [u8], started: u32)
             }
             Step::ReadReply => {
                 replies += 1;
-                let Heard::Answer(answer) = hear(sheet, state, replies) else {
+                let Heard::Answer(answer) = hear(rt, sheet, state, replies) else {
                     return;
                 };
                 bits = answer;
@@ -87,23 +89,23 @@ fn play(sheet: &[u8], state: &mut [u8], started: u32)
 }
 
 // Begins a campaign and plays it.
-fn drill(sheet: &[u8], state: &mut [u8])
+fn drill(rt: &HostRuntime, sheet: &[u8], state: &mut [u8])
     ensures { DrilledFromStart sheet.now state.old state.new }
 {
     let started = campaign::campaign_start(sheet, state);
-    play(sheet, state, started);
+    play(rt, sheet, state, started);
 }
 
 // The whole drill: the sheet from its file, the state as it comes. A missing file counts as empty.
-pub fn run() {
+pub fn run(rt: &HostRuntime) {
     let mut sheet = [0u8; files::SHEET_BYTES];
     let mut state = [0u8; 65];
-    match files::read_file(b"drill: plan.txt", b"plan.txt", &mut sheet) {
+    match files::read_file(rt, b"drill: plan.txt", b"plan.txt", &mut sheet) {
         Found::Bytes(n) => {
-            drill(&sheet[..n], &mut state);
+            drill(rt, &sheet[..n], &mut state);
         }
         Found::Missing => {
-            drill(b"", &mut state);
+            drill(rt, b"", &mut state);
         }
         Found::Failed => {}
     }

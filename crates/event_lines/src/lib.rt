@@ -1,5 +1,7 @@
 // An event line, six bytes: a letter, a number in four columns, a line feed. Orders and replies stand so in a journal, replies in the
 // drill's input, and orders and ends in what the drill prints.
+#![tactic(auto)]
+
 ghost use Rattle.std.specs.Prelude.{◌≡◌, ◌≤◌, length};
 ghost use Rattle.std.proofs.lemmas.List.Edits.{sets};
 ghost use Rattle.event_lines.specs.Line.{is_order, line_text, line_of};
@@ -7,7 +9,7 @@ ghost use Rattle.event_lines.specs.Line.{is_order, line_text, line_of};
 use decimal::Field;
 
 // What six bytes hold: a letter, whatever it is, and a number; or they are no line of this form.
-#[derive(Drop)]
+#[derive(Clone, Copy)]
 pub enum Line {
     Given(u8, u32),
     Misformed,

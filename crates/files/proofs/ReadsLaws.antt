@@ -1,21 +1,17 @@
--- One read, told apart by the sign of its answer; and the count, where bytes are given.
+-- One read, told apart by its answer; and the count, where bytes are given.
 -- Assumes nothing.
-use Prim.Native.Nat.{ℕ, zero, suc, ◌+◌, ◌-◌, ◌≤◌}
-use mathlib.Core.Path.{◌≡◌, sym}
-use mathlib.Core.Bool.{Bool, true, false}
-use mathlib.Core.List.{List}
-use native.Mathlib.Omega.{arith}
-use lib.Dec.{T}
-use borrow.Author.Tests.{ltb-true, ltb-false}
-use lib.ListN.{length, take, drop, length-drop}
-use lib.Seq.{length-take-le}
-use lib.IntN.{ℤ, pos, negsuc, nat_abs}
-use lib.Signed.{lt_z, non_neg}
-use mir.Syntax.{w64}
-use mir.Val.{Fits, SFits}
-use Rattle.libc.specs.Io.{Moved}
-use Rattle.io.specs.Counts.{IsPrefixLen}
-use Rattle.files.specs.Reads.{piece_of, FitsBehind, found_of, needed_of, GotCounts, FoundCounts}
+use Rattle.std.proofs.Common.{◌≡◌, ◌≢◌, ℕ, zero, suc, ◌+◌, ◌-◌, ◌<◌, ◌≤◌, List, [], ◌++◌, length, take, drop, slice_range, refl, sym, ap, ◌∙◌, subst, arith, drop_at, length-take-le, append-nil, Option, Result, Ok, Err}
+use Rattle.std.specs.Io.{ReadsAtMost}
+use Rattle.std.specs.Io.KnownBytes.{Consumes, Keeps, IsAtEnd, ReadConsumes}
+use Rattle.std.proofs.KnownBytes.{Consumes-trans, Consumes-kept}
+use borrow.Rule.Slice.PartMut.{put_mid, post_of}
+use lib.Seq.{take-add, take-append-le}
+use Rattle.std.specs.IoError.{error_kind}
+use Rattle.std.specs.declared.io.Error.{Error}
+use Rattle.std.specs.declared.io.ErrorKind.{ErrorKind}
+use Rattle.std.specs.declared.io.ErrorKind.TheVariants.{Interrupted}
+use Rattle.std.specs.Counts.{IsPrefixLen}
+use Rattle.files.specs.Reads.{failure_of, piece_of, FitsBehind, Brings, GotBytes, found_of, needed_of, GotCounts, FoundCounts}
 use Rattle.files.specs.declared.Piece.{Piece}
 use Rattle.files.specs.declared.Piece.TheVariants as P
 use Rattle.files.specs.declared.Got.{Got}
@@ -23,47 +19,103 @@ use Rattle.files.specs.declared.Got.TheVariants as G
 use Rattle.files.specs.declared.Found.{Found}
 use Rattle.files.specs.declared.Found.TheVariants as F
 
--- ---- the answer of a read, as it lies in a local
+-- ---- the answer of a read
 
-pub interrupted : (z got : ℤ) (i : Bool) → z ≡ got → lt_z z (pos 0) ≡ true → i ≡ true → P.Interrupted ≡ piece_of got i
+pub ends : (got : Result ℕ Error) (n : ℕ) → got ≡ Ok n → (0 < n → ⊥) → P.End ≡ piece_of got
 unfolding piece_of
-interrupted (pos n) got i e h k = absurd (omega (arith, ltb-true n 0 h))
-interrupted (negsuc n) got i e h k = rw (← e, k)
+ends got zero e h = rw e
+ends got (suc n) e h = absurd (h (omega arith))
 
-pub failed : (z got : ℤ) (i : Bool) → z ≡ got → lt_z z (pos 0) ≡ true → i ≡ false → P.Failed ≡ piece_of got i
+pub brings : (got : Result ℕ Error) (n : ℕ) → got ≡ Ok n → 0 < n → P.Bytes n ≡ piece_of got
 unfolding piece_of
-failed (pos n) got i e h k = absurd (omega (arith, ltb-true n 0 h))
-failed (negsuc n) got i e h k = rw (← e, k)
+brings got zero e h = absurd (omega arith)
+brings got (suc n) e h = rw e
 
-pub a-count : (z got : ℤ) → z ≡ got → SFits w64 got → lt_z (pos 0) z ≡ true → T (non_neg z) × Fits w64 (nat_abs z)
-a-count (pos n) got e f h = let k : SFits w64 (pos n) = rw e f in (tt, record { fits = omega (arith, k.sfits) })
-a-count (negsuc n) got e f h = let z : ◌≡◌ {A = ℕ} 0 1 = cc in absurd (omega arith)
+pub interrupted : (got : Result ℕ Error) (why : Error) → got ≡ Err why → error_kind why ≡ Interrupted → P.Interrupted why ≡ piece_of got
+unfolding piece_of failure_of
+interrupted got why e k = rw (e, k)
 
-pub brings : (z got : ℤ) (i : Bool) → z ≡ got → lt_z (pos 0) z ≡ true → P.Bytes (nat_abs z) ≡ piece_of got i
+pub other : (kind : ErrorKind) (why : Error) → kind ≢ Interrupted → P.Failed why ≡ failure_of kind why
+unfolding failure_of
+other Interrupted why h = absurd (h refl)
+other kind why h = refl
+
+pub failed : (got : Result ℕ Error) (why : Error) → got ≡ Err why → error_kind why ≢ Interrupted → P.Failed why ≡ piece_of got
 unfolding piece_of
-brings (pos zero) got i e h = let z : ◌≡◌ {A = ℕ} 0 1 = cc in absurd (omega arith)
-brings (pos (suc n)) got i e h = rw (← e)
-brings (negsuc n) got i e h = let z : ◌≡◌ {A = ℕ} 0 1 = cc in absurd (omega arith)
-
-pub ends : (z got : ℤ) (i : Bool) → z ≡ got → lt_z z (pos 0) ≡ false → lt_z (pos 0) z ≡ false → P.End ≡ piece_of got i
-unfolding piece_of
-ends (pos zero) got i e h k = rw (← e)
-ends (pos (suc n)) got i e h k = absurd (omega (arith, ltb-false 0 (suc n) k))
-ends (negsuc n) got i e h k = let z : ◌≡◌ {A = ℕ} 0 1 = cc in absurd (omega arith)
+failed got why e h = rw e (other (error_kind why) why h)
 
 -- ---- what a read brings fits
 
-pub behind : (p : Piece) (z got : ℤ) (i : Bool) (done room rest : ℕ) → p ≡ piece_of z i → z ≡ got → Moved rest got → done + rest ≤ room
-    → FitsBehind p done room
-unfolding piece_of FitsBehind
-behind p z (pos zero) i done room rest e f m h = rw (e, f) tt
-behind p z (pos (suc n)) i done room rest e f m h = rw (e, f) (omega (arith, m), omega (arith, m))
-behind p z (negsuc n) true done room rest e f m h = rw (e, f) tt
-behind p z (negsuc n) false done room rest e f m h = rw (e, f) tt
+pub no-bytes : (kind : ErrorKind) (why : Error) (done room : ℕ) → FitsBehind (failure_of kind why) done room
+unfolding failure_of FitsBehind
+no-bytes Interrupted why done room = tt
+no-bytes kind why done room = tt
 
--- the rest of the bytes from a place on
-pub rest-fits : (xs : List ℕ) (done : ℕ) → done ≤ length xs → done + length (take (length xs - done) (drop done xs)) ≤ length xs
-rest-fits xs done h = omega (arith, length-take-le (length xs - done) (drop done xs) (omega (arith, length-drop done xs)))
+pub behind : (got : Result ℕ Error) (done room : ℕ) (rest : List ℕ) → ReadsAtMost got rest → done + length rest ≤ room
+    → FitsBehind (piece_of got) done room
+unfolding piece_of FitsBehind
+behind (Ok zero) done room rest fits h = tt
+behind (Ok (suc n)) done room rest fits h = (omega arith, omega (arith, fits.0, h))
+behind (Err why) done room rest fits h = no-bytes (error_kind why) why done room
+
+-- what one read brings, in `part`, stands behind the first bytes of the whole
+module _ (before after : Option (List ℕ)) (old part : List ℕ) (done k : ℕ) (within : done ≤ length old) where
+  abbrev new : List ℕ
+  new = put_mid done k old part
+
+  part-at : (n : ℕ) → n ≤ length part → slice_range new done (done + n) ≡ take n part
+  part-at n fits =
+      let same : (done + n) - done ≡ n = omega arith in
+      let rest = post_of done k old in
+      ap (take ((done + n) - done)) (drop_at (take done old) (part ++ rest) done (length-take-le done old within))
+      ∙ ap (λ m. take m (part ++ rest)) same ∙ take-append-le n part rest fits
+
+  none-brought : (kind : ErrorKind) (why : Error) → Keeps before after → Brings (failure_of kind why) done before after new
+  unfolding failure_of Brings
+  none-brought Interrupted why kept = kept
+  none-brought kind why kept = kept
+
+  pub brought : (got : Result ℕ Error) → length part ≡ k → length new ≡ length old → length old ≡ done + k → ReadsAtMost got part
+      → ReadConsumes before after got part → Brings (piece_of got) done before after new
+  unfolding piece_of Brings
+  brought (Ok zero) e f h fits moved = (moved.0, λ more. moved.1 refl (omega arith))
+  brought (Ok (suc n)) e f h fits moved = subst (Consumes before after) (sym (part-at (suc n) fits.0)) moved.0
+  brought (Err why) e f h fits moved = none-brought (error_kind why) why moved
+
+-- the pieces so far, and one more
+take_split : (a n : ℕ) (old new : List ℕ) → take a new ≡ take a old → take a old ++ slice_range new a (a + n) ≡ take (a + n) new
+take_split a n old new front =
+    let same : (a + n) - a ≡ n = omega arith in
+    ap (λ xs. xs ++ slice_range new a (a + n)) (sym front) ∙ ap (λ m. take a new ++ take m (drop a new)) same ∙ sym (take-add a n new)
+
+module _ (p : Piece) (first before after : Option (List ℕ)) (old new : List ℕ) (done : ℕ) (front : take done new ≡ take done old)
+    (so-far : Consumes first before (take done old)) (more : Brings p done before after new) where
+  pub and-bytes : (n : ℕ) → p ≡ P.Bytes n → Consumes first after (take (done + n) new)
+  unfolding Brings
+  and-bytes n e =
+      let got : Consumes before after (slice_range new done (done + n)) = rw e at more in
+      subst (Consumes first after) (take_split done n old new front) (Consumes-trans first before after _ _ so-far got)
+
+  pub and-the-end : p ≡ P.End → GotBytes (G.Bytes done) first after new
+  unfolding Brings GotBytes
+  and-the-end e =
+      let got : Consumes before after [] × (done < length new → IsAtEnd after) = rw e at more in
+      (subst (Consumes first after) (append-nil (take done old) ∙ sym front) (Consumes-trans first before after _ _ so-far got.0), got.1)
+
+  pub and-nothing : (why : Error) → p ≡ P.Interrupted why → Consumes first after (take done new)
+  unfolding Brings
+  and-nothing why e =
+      let kept : Keeps before after = rw e at more in
+      subst (Consumes first after) (sym front) (Consumes-kept first before after _ so-far kept)
+
+pub full : (first after : Option (List ℕ)) (bytes : List ℕ) (done : ℕ) → length bytes ≤ done → Consumes first after (take done bytes)
+    → GotBytes (G.Bytes done) first after bytes
+unfolding GotBytes
+full first after bytes done h so-far = (so-far, λ more. absurd (omega arith))
+
+pub gives-up : (first after : Option (List ℕ)) (bytes : List ℕ) → GotBytes G.Failed first after bytes
+unfolding GotBytes
+gives-up first after bytes = tt
 
 pub room : (p : Piece) (n done room : ℕ) → FitsBehind p done room → p ≡ P.Bytes n → (1 ≤ n) × (done + n ≤ room)
 unfolding FitsBehind

@@ -1,4 +1,5 @@
 // The lines that the flights print: a name, a refusal (0 is none) and a place.
+#![tactic(auto)]
 
 // Prints a line.
 pub fn show(name: &[u8], refusal: u64, place: u64) {

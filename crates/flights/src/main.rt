@@ -1,4 +1,6 @@
 // Reads the sheets that stand in its input, whose refusals are known from the rules alone, and prints a line for each.
+#![tactic(auto)]
+
 ghost use Rattle.std.specs.Prelude.{◌+◌, ◌≤◌, length};
 
 // Where the first b stands from a place on; the end where there is none.

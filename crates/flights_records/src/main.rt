@@ -1,5 +1,7 @@
 // Writes records at the limits and one past them, reads what was written, and prints a line for each. What comes of them is known from the
 // rules alone.
+#![tactic(auto)]
+
 ghost use Rattle.std.specs.Prelude.{◌≡◌};
 ghost use Rattle.writer.specs.Written.{written_refusal};
 

@@ -8,7 +8,6 @@ use borrow.Author.Tests.{eq-eqb}
 use Rattle.bounded.proofs.Bools.{◌&◌}
 use Rattle.network.specs.declared.Network.{Network}
 use Rattle.verdict.proofs.Facts.{Passes}
-use Rattle.run.specs.Sound.{sound}
 use Rattle.run.specs.Bytes.{bytes_of, run_of, sound_bytes}
 use Rattle.run.specs.declared.Run.{Run}
 use Rattle.run.proofs.Facts.{Sound}

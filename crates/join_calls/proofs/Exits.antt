@@ -17,9 +17,9 @@ use Rattle.sheet.specs.Outlined.{links_read}
 use Rattle.sheet.specs.Text.{sheet_text}
 use Rattle.guarantee.specs.Answers.{pack}
 use Rattle.lent_text.specs.Room.{room_bits, room_leaves}
-use Rattle.calls.specs.Calls.{check_call, checked_of}
-use Rattle.calls.specs.declared.Checked.{Checked}
-use Rattle.calls.proofs.Exits.{bits_is}
+use Rattle.calls.specs.Calls.{check_call, planned_of}
+use Rattle.calls.specs.declared.Planned.{Planned}
+use Rattle.calls.proofs.Exits.{planned-bits}
 use Rattle.clear.specs.Clear.{clear_bits, clear}
 use Rattle.clear.proofs.ClearLaws.{clear-fine, clear-valid}
 use Rattle.clear.proofs.PlanRead.{plan-read}
@@ -29,11 +29,11 @@ use Rattle.join.proofs.ValidJoin.{within-limits}
 use Rattle.join_calls.specs.Join.{fits, joined_text, join_call, join_leaves}
 
 -- a sheet that was judged with its links beside it, and whether 1 to 7 are absent
-module _ (s : List ℕ) (x : Checked) (us vs : List ℕ) (ex : x ≡ checked_of s) (eu : us ≡ (links_read ours s).from) (ev : vs ≡ (links_read ours s).to)
+module _ (s : List ℕ) (x : Planned) (us vs : List ℕ) (ex : x ≡ planned_of s) (eu : us ≡ (links_read ours s).from) (ev : vs ≡ (links_read ours s).to)
     (b : Bool) (eb : b ≡ clear_bits 7 x.bits) where
   clear-is : b ≡ clear 7 s
   unfolding clear
-  clear-is = eb ∙ ap (clear_bits 7) (bits_is ours s x ex)
+  clear-is = eb ∙ ap (clear_bits 7) (planned-bits ours s x ex)
 
   pub unclear : not b ≡ true → clear 7 s ≡ false
   unclear n = sym clear-is ∙ not-true b n

@@ -1,4 +1,6 @@
 // What the call of a join does: two sheets, and the sheet of both plans as one. Crate campaign exports it.
+#![tactic(auto)]
+
 ghost use Rattle.std.specs.Prelude.{◌≡◌, length};
 ghost use Rattle.join_calls.specs.Join.{join_call, join_leaves};
 

@@ -1,20 +1,20 @@
 // A journal, read line after line: a reader that holds the lent bytes and how far it has come. Whoever reads lines keeps one for all of them.
-// The borrow checker covers no function over a struct that holds a slice: `read_on` and its caller, `lent_state::read_lines`, are proved by hand.
-// They are thin: the work is done by `turn_at`, which is covered.
+#![tactic(auto)]
+
 ghost use Rattle.std.specs.Prelude.{◌≡◌};
 ghost use Rattle.journal.specs.Reading.{turn_at};
 
 use event_lines::Line;
 
 // What stands where a reader has come to: a whole line, or no more of them.
-#[derive(Drop)]
+#[derive(Clone, Copy)]
 pub enum Entry {
     Whole(Line),
     End,
 }
 
 // What was read, and how far the reader has come then.
-#[derive(Drop)]
+#[derive(Clone, Copy)]
 pub struct Turn {
     pub entry: Entry,
     pub at: usize,
@@ -44,7 +44,7 @@ fn turn_at(bytes: &[u8], at: usize) -> Turn
 }
 
 // A reader: the bytes that were lent, and how far it has come.
-#[derive(Drop)]
+#[derive(Clone, Copy)]
 pub struct Journal<'a> {
     pub bytes: &'a [u8],
     pub at: usize,

@@ -1,4 +1,6 @@
 // What the calls of the journal do: a line written, and a campaign restarted from its journal. Crate campaign exports them.
+#![tactic(auto)]
+
 ghost use Rattle.std.specs.Prelude.{◌≡◌, ◌≤◌, length};
 ghost use Rattle.run.specs.Bytes.{bytes_of};
 ghost use Rattle.journal_calls.specs.Journal.{is_letter, has_line, journal_line_call, journal_line_leaves};

@@ -91,7 +91,7 @@ module _ (orders : Bool) (g : Network) (p : Progress) (bs : List ℕ) (entry : E
 
 -- ---- the loop
 
-module _ (orders : Bool) (g : Network) (few : g.a ≤ 16) (lines first : List ℕ) where
+module _ (orders : Bool) (g : Network) (lines first : List ℕ) where
   -- where the reader has come to, what was told last, and the state's bytes
   abbrev pub Holds : ℕ → Progress → List ℕ → Type 0
   Holds at p ys = (at ≤ length lines) × (6 * p.kept ≡ at) × (length ys ≡ 65) × ((run_of ys).way ≤ 16) × (p.standing ≡ standing g (run_of ys)) × (rest orders g lines at p.kept (run_of ys) ≡ taken_of orders g (run_of first) lines)
@@ -103,7 +103,7 @@ module _ (orders : Bool) (g : Network) (few : g.a ≤ 16) (lines first : List �
   pub holds-first : (p : Progress) → p.kept ≡ 0 → length first ≡ 65 → (run_of first).way ≤ 16 → p.standing ≡ standing g (run_of first) → Holds 0 p first
   holds-first p k size way s = (omega arith, omega (arith, k), size, way, s, ap (λ (n : ℕ). rest orders g lines 0 n (run_of first)) k ∙ all_left orders g lines (run_of first))
 
-  module _ (at : ℕ) (p : Progress) (ys : List ℕ) (h : Holds at p ys) (entry : Entry) (at' : ℕ) (p' : Progress) (zs : List ℕ) (et : entry ≡ (turn_at lines at).entry) (ea : at' ≡ (turn_at lines at).at)
+  module _ (few : g.a ≤ 16) (at : ℕ) (p : Progress) (ys : List ℕ) (h : Holds at p ys) (entry : Entry) (at' : ℕ) (p' : Progress) (zs : List ℕ) (et : entry ≡ (turn_at lines at).entry) (ea : at' ≡ (turn_at lines at).at)
       (er : Turned orders g p.kept (run_of ys) entry p' zs) where
     abbrev t : Replied
     t = entry_by orders g (run_of ys) entry

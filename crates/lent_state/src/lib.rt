@@ -1,5 +1,7 @@
 // Orders and replies taken in the state's lent bytes: a line of a journal or of a block changes one byte of a booking, and the way's byte
 // where the way changes. How the bookings stand is handed in and handed on, so that a line costs little.
+#![tactic(auto)]
+
 ghost use Rattle.std.specs.Prelude.{◌≡◌, false, ◌&&◌, suc, ◌+◌, ◌≤◌, ◌<◌, ◌^◌, eqb, length};
 ghost use Rattle.event_lines.specs.Line.{is_order};
 ghost use Rattle.run.specs.State.{standing};
@@ -16,14 +18,14 @@ use run::Order;
 use standing::Standing;
 
 // Whether an order or a reply was taken, and how the bookings stand after it.
-#[derive(Drop)]
+#[derive(Clone, Copy)]
 pub struct Stood {
     pub taken: bool,
     pub standing: Standing,
 }
 
 // Lines taken: how many are kept, and what is wrong with the next one.
-#[derive(Drop)]
+#[derive(Clone, Copy)]
 pub struct Taken {
     pub kept: usize,
     pub fault: u32,
@@ -223,7 +225,7 @@ fn take_line(
 }
 
 // How far taking lines has come: how the bookings stand, how many lines are kept, what is wrong with the next one, and whether to read on.
-#[derive(Drop)]
+#[derive(Clone, Copy)]
 pub struct Progress {
     pub standing: Standing,
     pub kept: usize,
@@ -280,8 +282,7 @@ fn take_entry<'n, 's>(
     }
 }
 
-// Reads all lines with one reader, which remembers how far it has come. The reader holds a slice, so this is the crate's one function that is
-// proved by hand: it only reads, and hands what was read to `take_entry`.
+// Reads all lines with one reader, which remembers how far it has come, and hands what was read to `take_entry`.
 fn read_lines<'n, 'l, 's>(
     g: Network,
     before: &'n [u64; 64],

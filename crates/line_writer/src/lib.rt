@@ -1,4 +1,6 @@
 // Writes the lines of a fixed width of a plan sheet into a lent buffer: the head, the bookings, the links. All other bytes are kept.
+#![tactic(auto)]
+
 ghost use Rattle.std.specs.Prelude.{◌≡◌, ◌+◌, ◌*◌, ◌≤◌, length};
 ghost use Rattle.std.proofs.lemmas.List.Edits.{sets};
 ghost use Rattle.plan.specs.Limits.{most_bookings, most_links};

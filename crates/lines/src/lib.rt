@@ -1,4 +1,6 @@
 // The lines of a fixed width of a plan sheet: the head, the bookings, the links. Each is read from a part of the sheet.
+#![tactic(auto)]
+
 ghost use Rattle.std.specs.Prelude.{◌≡◌, ◌≤◌, ◌<◌, drop};
 ghost use Rattle.plan.specs.Limits.{most_bookings, most_links};
 ghost use Rattle.lines.specs.Form.{links_place, ways_place, is_framed};
@@ -21,7 +23,7 @@ pub const BOOKING_BYTES: usize = 12;
 pub const LINK_BYTES: usize = 10;
 
 // What the head line holds: the counts of bookings, links and ways and the limit of open matters, or why it is refused.
-#[derive(Drop)]
+#[derive(Clone, Copy)]
 pub enum Head {
     Counts(usize, usize, usize, usize),
     Malformed,
@@ -30,7 +32,7 @@ pub enum Head {
 }
 
 // What a booking's line holds: the letter of its kind and the number of its desk, or why it is refused.
-#[derive(Drop)]
+#[derive(Clone, Copy)]
 pub enum Booking {
     Entry(u8, u8),
     Malformed,
@@ -38,7 +40,7 @@ pub enum Booking {
 }
 
 // What a link's line holds: two bookings by number, or why it is refused.
-#[derive(Drop)]
+#[derive(Clone, Copy)]
 pub enum Link {
     Pair(u8, u8),
     Malformed,
@@ -46,7 +48,7 @@ pub enum Link {
 }
 
 // The kinds and desks that the lines of the bookings give; up to the refused line, if one is.
-#[derive(Drop)]
+#[derive(Clone, Copy)]
 pub struct Bookings {
     pub judged: Judged,
     pub kind: [u8; 64],

@@ -1,4 +1,6 @@
 // A plan as the rules look at it, its links closed to chains.
+#![tactic(auto)]
+
 ghost use Rattle.std.specs.Prelude.{◌≡◌, ◌≤◌};
 ghost use Rattle.sets.specs.Sets.{gather};
 ghost use Rattle.plan.specs.Outline.{plan_of};
@@ -9,7 +11,7 @@ use plan::Outline;
 // A plan as the rules see it. Booking number b is index b - 1 and bit b - 1 of every set; way[k] is way number k + 1.
 // before[v] has all bookings that precede v, by one link or by a chain of links. desk[d] has the bookings of desk number d + 1; limit is how
 // many matters a desk may have open.
-#[derive(Drop)]
+#[derive(Clone, Copy)]
 pub struct Network {
     pub n: usize,
     pub a: usize,
@@ -22,7 +24,7 @@ pub struct Network {
 }
 
 // The bookings that stay once they are held, and those that can be refused for good.
-#[derive(Drop)]
+#[derive(Clone, Copy)]
 struct Kinds {
     firm: u64,
     exposed: u64,

@@ -1,4 +1,6 @@
-// The call for the partner range: our check, for sheets of at most 16 bookings and 4 ways. An archive of its own has it, and what it needs.
+// The call for the partner range: our check, for sheets of at most 16 bookings and 4 ways. Crate partner_c exports it, for an archive of its own.
+#![tactic(auto)]
+
 ghost use Rattle.std.specs.Prelude.{◌≡◌};
 ghost use Rattle.partner.specs.Partner.{theirs, partner_call};
 
@@ -16,8 +18,7 @@ fn theirs() -> Limits
 }
 
 // Judges a sheet: accepted, or the first of refusals 1 to 8 and 16 with its place.
-#[unsafe(no_mangle)]
-pub extern "C" fn partner_check(sheet: &[u8]) -> u32
+pub fn partner_check(sheet: &[u8]) -> u32
     ensures { result ≡ partner_call sheet.now }
 {
     let c = calls::judge_within(sheet, theirs());

@@ -15,7 +15,7 @@ use Rattle.run.specs.Bytes.{run_of}
 use Rattle.guarantee.specs.Answers.{pack}
 use Rattle.calls.specs.Calls.{network_in, taken_up}
 use Rattle.calls.specs.declared.Campaign.{Campaign}
-use Rattle.calls.proofs.Exits.{not_taken, in_order, taken_is, ready}
+use Rattle.calls.proofs.Exits.{not_taken, in_order_lem, taken_is, ready}
 use Rattle.lent_text.proofs.Room.{no_room, room}
 use Rattle.passed_ways.specs.Listing.{line_bytes, row_of, listing_of, listing}
 use Rattle.passed_ways.proofs.StoryLaws.{listing-length}
@@ -47,10 +47,10 @@ module _ (s bs : List ℕ) (c : Campaign) (e : c ≡ taken_up s bs) where
 
     pub short : (d : List ℕ) → length d < line_bytes * k → (x : ℕ) → x ≡ pack 0 10 0 → Ends d x d
     unfolding passed_call passed_leaves
-    short d l x q = rw (in_order s bs c e n) (no_room (listing_in s bs) d (line_bytes * k) text-length l x q)
+    short d l x q = rw (in_order_lem s bs c e n) (no_room (listing_in s bs) d (line_bytes * k) text-length l x q)
 
     pub written : (d : List ℕ) → line_bytes * k ≤ length d → (x : ℕ) → x ≡ pack 6 0 (line_bytes * k) → (after : List ℕ)
         → after ≡ sets d 0 (in_row (row_of c.standing.lost (held_firm c.network c.standing) c.network.way) k) → Ends d x after
     unfolding passed_call passed_leaves listing_in listing listing_of
     written d l x q after w =
-        rw (in_order s bs c e n) (room (listing_in s bs) d (line_bytes * k) text-length l x q after (w ∙ rw (ek, taken_is s bs c e n)))
+        rw (in_order_lem s bs c e n) (room (listing_in s bs) d (line_bytes * k) text-length l x q after (w ∙ rw (ek, taken_is s bs c e n)))

@@ -1,5 +1,7 @@
 // What the call of the passed-over ways does: from sheet and state the listing that says why each way before the current one is out.
 // Crate campaign exports it.
+#![tactic(auto)]
+
 ghost use Rattle.std.specs.Prelude.{◌≡◌, length};
 ghost use Rattle.passed_calls.specs.Passed.{passed_call, passed_leaves};
 

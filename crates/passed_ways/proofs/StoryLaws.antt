@@ -17,8 +17,8 @@ use Rattle.decimal.proofs.Rows.{row_at}
 use Rattle.sets.specs.Sets.{member, without, disjoint_from}
 use Rattle.sets.proofs.Facts.{meet-e, both-i, both-e, without-i, without-e}
 use Rattle.network.specs.declared.Network.{Network}
-use Rattle.network.specs.Network.{way_of, in_way, firm}
-use Rattle.standing.specs.Standing.{held, lost}
+use Rattle.network.specs.Network.{way_of, in_way}
+use Rattle.standing.specs.Standing.{lost}
 use Rattle.standing.specs.Ways.{lost_in, held_firm, live_at}
 use Rattle.run.specs.State.{standing}
 use Rattle.run.specs.Sound.{ways_before}

@@ -1,4 +1,6 @@
 // The story of the current way: for each way before it one line that says why it is out. The lines are written into a lent buffer.
+#![tactic(auto)]
+
 ghost use Rattle.std.specs.Prelude.{◌≡◌, ◌+◌, ◌*◌, ◌^◌, ◌≤◌, ◌<◌, length};
 ghost use Rattle.std.proofs.lemmas.List.Edits.{sets};
 ghost use Rattle.decimal.specs.Rows.{in_row};
@@ -8,7 +10,7 @@ ghost use Rattle.passed_ways.specs.Listing.{line_bytes, reason_of, letter_of, bo
 pub const LINE_BYTES: usize = 11;
 
 // Why a way is out: a booking of it is lost, or it lacks one that is held and firm. The booking is given by its index.
-#[derive(Drop)]
+#[derive(Clone, Copy)]
 pub enum Reason {
     Lost(usize),
     Lacks(usize),

@@ -1,4 +1,6 @@
 // The plan record: bookings with their kinds and desks, links, ways; its limits; and which counts and entries of a record are refused.
+#![tactic(auto)]
+
 ghost use Rattle.std.specs.Prelude.{◌≡◌, ◌&&◌, ◌^◌, ◌≤◌, ltb};
 ghost use Rattle.bounded.specs.Bounded.{all};
 ghost use Rattle.sets.specs.Sets.{size_of};
@@ -9,7 +11,7 @@ ghost use Rattle.plan.specs.Record.{booking_at, link_at, count_at, within_at, co
 
 // A plan: n bookings, m links, a ways. Entries past these counts have no meaning. limit is how many matters a desk may have open.
 // kind[b] is the letter of booking b + 1, desk[b] the number of its desk; link i joins booking from[i] to booking to[i]; bit b of way[k] says that booking b + 1 is in way k + 1.
-#[derive(Drop)]
+#[derive(Clone, Copy)]
 pub struct Plan {
     pub n: usize,
     pub m: usize,
@@ -23,7 +25,7 @@ pub struct Plan {
 }
 
 // A plan but for its links: its counts, its kinds, its desks and its ways.
-#[derive(Drop)]
+#[derive(Clone, Copy)]
 pub struct Outline {
     pub n: usize,
     pub m: usize,
@@ -35,7 +37,7 @@ pub struct Outline {
 }
 
 // How many bookings, links and ways a caller takes at most.
-#[derive(Drop)]
+#[derive(Clone, Copy)]
 pub struct Limits {
     pub bookings: usize,
     pub links: usize,
@@ -43,7 +45,7 @@ pub struct Limits {
 }
 
 // What a record is: fine, or refused for a count, or for an entry that is out of sequence, out of range or no kind.
-#[derive(Drop)]
+#[derive(Clone, Copy)]
 pub enum Judgement {
     Fine,
     Count,
@@ -51,7 +53,7 @@ pub enum Judgement {
 }
 
 // What the lines of a sheet are, as far as they were read: fine, or refused at a line for its form, for a count, or for a number.
-#[derive(Drop)]
+#[derive(Clone, Copy)]
 pub enum Judged {
     Fine,
     Form(usize),

@@ -1,4 +1,6 @@
 // Precedence among 64 bookings: the 64 sets of direct predecessors go in, and the sets of all that precede come back, as one array of sets.
+#![tactic(auto)]
+
 ghost use Rattle.std.specs.Prelude.{◌≡◌, ◌+◌, ◌≤◌, ◌<◌};
 ghost use Rattle.precedence.specs.Precedence.{joined_of, joined_four, four_of, closure_of, EmptyFrom};
 

@@ -21,7 +21,7 @@ use Rattle.network.proofs.Facts.{Shape}
 use Rattle.standing.specs.Standing.{free, requested, held, lost, returning, matters}
 use Rattle.standing.specs.Ways.{preceding, lost_in, held_firm}
 use Rattle.standing.proofs.Facts.{preceding-i, preceding-e}
-use Rattle.run.specs.State.{code, is, standing, here}
+use Rattle.run.specs.State.{code, standing, here}
 use Rattle.run.specs.Sound.{code_known, codes_known, way_known, zero_past, rest_zero, all_founded, lost_exposed, requested_inside, returning_outside, quiet, ways_before, passed_over, earlier_dead, firm_inside, desks_kept, lost_pending, sound}
 use Rattle.run.specs.declared.Run.{Run}
 use Rattle.run.proofs.Facts.{Core, Sound, is-i, is-e, coded-i, coded-e, some-coded, none-coded, firm-i, firm-e, inside, lost-i, lost-e}

@@ -1,5 +1,7 @@
 // The run of a plan: its state, the next order, and what a desk's reply does. Both steps are handed how the bookings stand, so that
 // a call looks at the codes once.
+#![tactic(auto)]
+
 ghost use Rattle.std.specs.Prelude.{◌≡◌, ◌≤◌, ◌<◌, length};
 ghost use Rattle.bounded.specs.Bounded.{first};
 ghost use Rattle.standing.specs.Standing.{standing_of};
@@ -12,14 +14,14 @@ use network::Network;
 use standing::Standing;
 
 // The current way, 0 while calling off, and for each of 64 bookings its code.
-#[derive(Drop)]
+#[derive(Clone, Copy)]
 pub struct Run {
     pub way: u8,
     pub code: [u8; 64],
 }
 
 // What next order answers: bookings by index, ways by number.
-#[derive(Drop)]
+#[derive(Clone, Copy)]
 pub enum Order {
     Request(usize),
     Return(usize),
@@ -29,14 +31,14 @@ pub enum Order {
 }
 
 // An order, and the state after it.
-#[derive(Drop)]
+#[derive(Clone, Copy)]
 pub struct Ordered {
     pub order: Order,
     pub run: Run,
 }
 
 // Whether a reply fits, and the state after it.
-#[derive(Drop)]
+#[derive(Clone, Copy)]
 pub struct Replied {
     pub taken: bool,
     pub run: Run,

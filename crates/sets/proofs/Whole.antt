@@ -9,7 +9,6 @@ use native.Mathlib.Omega.{arith}
 use lib.Pow.{pow_pos}
 use lib.Bits.{bit_and, and_le_l, and_le_r}
 use Rattle.bounded.proofs.Bools.{split?, and-no-l, and-true}
-use Rattle.bounded.specs.Bounded.{all}
 use Rattle.sets.specs.Sets.{member, gather, only, without, always, all_below}
 use Rattle.sets.proofs.Members.{member-and, same_set, fits_more}
 use Rattle.sets.proofs.Gather.{gather-lt, gather-is, member-gather, member-gather-past}

@@ -1,5 +1,7 @@
 // A set of bookings as the 64 bits of a u64: booking number b is bit b - 1, so its index is its bit.
 // A bit is worked out by a shift, in `bit` alone; no table of them is kept.
+#![tactic(auto)]
+
 ghost use Rattle.std.specs.Prelude.{◌≡◌, ◌≤◌, ◌<◌};
 ghost use Rattle.bounded.specs.Bounded.{first};
 ghost use Rattle.sets.specs.Sets.{alone, member, all_below, without, but_lowest, subset_of, disjoint_from, size_of};

@@ -1,4 +1,6 @@
 // The bill of the Tanker flight, flown by its second way.
-fn main() {
-    settle_run::run();
+#![tactic(auto)]
+
+fn main(rt: HostRuntime) {
+    settle_run::run(&rt);
 }

@@ -1,5 +1,7 @@
 // Accounts' program: the plan sheet from plan.txt, the fee sheet from fees.txt and the journal from journal.txt; the report is printed, or the
 // refusal as the drill prints it.
+#![tactic(auto)]
+
 ghost use Rattle.std.specs.Prelude.{◌≡◌, ◌≤◌, length};
 ghost use Rattle.std.proofs.lemmas.List.Edits.{sets};
 ghost use Rattle.settle_run.specs.Settled.{longest_report, settled_text};
@@ -25,20 +27,20 @@ fn write_settled(sheet: &[u8], fees: &[u8], journal: &[u8], text: &mut [u8]) -> 
 }
 
 // Prints the report of three texts, or why there is none. A program has no exit status, so a bill that is lost is told on standard error.
-fn print_settled(sheet: &[u8], fees: &[u8], journal: &[u8]) {
+fn print_settled(rt: &HostRuntime, sheet: &[u8], fees: &[u8], journal: &[u8]) {
     let mut text = [0u8; 3194];
     let n = write_settled(sheet, fees, journal, &mut text);
-    files::print(b"settle: the bill could not be written", &text[..n]);
+    files::print(rt, b"settle: the bill could not be written", &text[..n]);
 }
 
 // Reads the three files and prints. Each that is missing or cannot be read is told on standard error, and then nothing is printed.
-pub fn run() {
+pub fn run(rt: &HostRuntime) {
     let mut sheet = [0u8; files::SHEET_BYTES];
     let mut fees = [0u8; FEES_BYTES];
     let mut journal = [0u8; JOURNAL_BYTES];
-    let plan_read = files::read_needed(b"settle: plan.txt", b"plan.txt", &mut sheet);
-    let fees_read = files::read_needed(b"settle: fees.txt", b"fees.txt", &mut fees);
-    let journal_read = files::read_needed(b"settle: journal.txt", b"journal.txt", &mut journal);
+    let plan_read = files::read_needed(rt, b"settle: plan.txt", b"plan.txt", &mut sheet);
+    let fees_read = files::read_needed(rt, b"settle: fees.txt", b"fees.txt", &mut fees);
+    let journal_read = files::read_needed(rt, b"settle: journal.txt", b"journal.txt", &mut journal);
     let Got::Bytes(s) = plan_read else {
         return;
     };
@@ -48,5 +50,5 @@ pub fn run() {
     let Got::Bytes(j) = journal_read else {
         return;
     };
-    print_settled(&sheet[..s], &fees[..f], &journal[..j]);
+    print_settled(rt, &sheet[..s], &fees[..f], &journal[..j]);
 }

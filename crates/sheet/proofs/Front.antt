@@ -140,7 +140,7 @@ ways-alike {x} {y} n first (suc more) i at b ws h e =
     let m : way_bytes n * suc more ≡ way_bytes n * more + way_bytes n = mul-suc (way_bytes n) more in
     rw (way-alike n x y (from 0 (way_bytes n) (omega (arith, m)) e))
     (after-alike n (first + i) at b ws _ _ (omega (arith, m))
-    (λ k s u. ways-alike n first more (i + 1) (at + way_bytes k) b (set ws i s) (omega (arith, m)) (from (way_bytes k) (way_bytes n * more) (omega (arith, m)) e))
+    (λ k s u. ways-alike {x = drop (way_bytes k) x} {y = drop (way_bytes k) y} n first more (i + 1) (at + way_bytes k) b (set ws i s) (omega (arith, m)) (from (way_bytes k) (way_bytes n * more) (omega (arith, m)) e))
     (way_line_of n y) (λ k s. few-members n y (way_line_of n y) k s refl))
 
 -- ---- the sheet

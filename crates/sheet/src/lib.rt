@@ -1,4 +1,6 @@
 // Reads a plan sheet: its plan, or the first line that is refused and why.
+#![tactic(auto)]
+
 ghost use Rattle.std.specs.Prelude.{◌≡◌, ◌≤◌};
 ghost use Rattle.plan.specs.declared.Judged.TheVariants.{Fine};
 ghost use Rattle.plan.specs.Limits.{most_bookings, most_links, most_ways};
@@ -11,14 +13,14 @@ use plan::{Judged, Limits, Outline, Plan};
 use ways::Ways;
 
 // What a sheet is, and its plan, which is empty where the sheet is refused.
-#[derive(Drop)]
+#[derive(Clone, Copy)]
 pub struct Sheet {
     pub judged: Judged,
     pub plan: Plan,
 }
 
 // The same but for the links, which stand beside it.
-#[derive(Drop)]
+#[derive(Clone, Copy)]
 pub struct Outlined {
     pub judged: Judged,
     pub outline: Outline,

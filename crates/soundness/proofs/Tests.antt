@@ -21,7 +21,7 @@ use Rattle.standing.specs.Ways.{preceding, lost_in, live_at}
 use Rattle.standing.specs.declared.Standing.{Standing}
 use Rattle.standing.proofs.Facts.{is-e, preceding-e}
 use Rattle.run.specs.declared.Run.{Run}
-use Rattle.run.specs.State.{code, is}
+use Rattle.run.specs.State.{code}
 use Rattle.run.specs.Sound.{code_known, codes_known, way_known, zero_past, rest_zero, quiet, ways_before, passed_over, earlier_dead, lost_pending}
 
 -- ---- bytes past n

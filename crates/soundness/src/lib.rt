@@ -1,4 +1,6 @@
 // Whether a state is sound: a test for each sentence of the rule, on how the bookings stand. The sentences are defined in crate run.
+#![tactic(auto)]
+
 ghost use Rattle.std.specs.Prelude.{◌≡◌, ◌&&◌, ◌≤◌};
 ghost use Rattle.bounded.specs.Bounded.{all};
 ghost use Rattle.run.specs.State.{standing};

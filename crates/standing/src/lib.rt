@@ -1,5 +1,7 @@
 // How the bookings of a plan stand: one look at the codes of a state gives the set of each code, and the rules ask these sets.
 // A function that reads an array of the network is lent it beside the network: to read an element of a field would copy the network.
+#![tactic(auto)]
+
 ghost use Rattle.std.specs.Prelude.{◌≡◌, cond, ◌≤◌, ◌<◌};
 ghost use Rattle.std.specs.Int.Bits.{bit_or};
 ghost use Rattle.network.specs.Network.{way_of};
@@ -20,7 +22,7 @@ pub const LOST: u8 = 3;
 pub const RETURNING: u8 = 4;
 
 // The bookings of a plan by their code.
-#[derive(Drop)]
+#[derive(Clone, Copy)]
 pub struct Standing {
     pub free: u64,
     pub requested: u64,

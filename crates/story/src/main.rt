@@ -1,4 +1,6 @@
 // The story of the Tanker flight, flown by its second way.
-fn main() {
-    story_run::run();
+#![tactic(auto)]
+
+fn main(rt: HostRuntime) {
+    story_run::run(&rt);
 }

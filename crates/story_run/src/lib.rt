@@ -1,5 +1,7 @@
 // Planners' program: the plan sheet from plan.txt and the journal from journal.txt. The state that follows the journal is worked out, and the listing
 // of the ways before the current one is printed, or the refusal as the drill prints it.
+#![tactic(auto)]
+
 ghost use Rattle.std.specs.Prelude.{◌≡◌, cond, ◌/◌, ◌≤◌, leb, length};
 ghost use Rattle.std.proofs.lemmas.List.Edits.{sets};
 ghost use Rattle.charges.specs.Charges.{most_lines};
@@ -45,23 +47,23 @@ fn write_story(sheet: &[u8], journal: &[u8], text: &mut [u8]) -> usize
 }
 
 // Prints the story of two texts, or why there is none. A program has no exit status, so a story that is lost is told on standard error.
-fn print_story(sheet: &[u8], journal: &[u8]) {
+fn print_story(rt: &HostRuntime, sheet: &[u8], journal: &[u8]) {
     let mut text = [0u8; 176];
     let n = write_story(sheet, journal, &mut text);
-    files::print(b"story: the listing could not be written", &text[..n]);
+    files::print(rt, b"story: the listing could not be written", &text[..n]);
 }
 
 // Reads the two files and prints. Each that is missing or cannot be read is told on standard error, and then nothing is printed.
-pub fn run() {
+pub fn run(rt: &HostRuntime) {
     let mut sheet = [0u8; files::SHEET_BYTES];
     let mut journal = [0u8; JOURNAL_BYTES];
-    let plan_read = files::read_needed(b"story: plan.txt", b"plan.txt", &mut sheet);
-    let journal_read = files::read_needed(b"story: journal.txt", b"journal.txt", &mut journal);
+    let plan_read = files::read_needed(rt, b"story: plan.txt", b"plan.txt", &mut sheet);
+    let journal_read = files::read_needed(rt, b"story: journal.txt", b"journal.txt", &mut journal);
     let Got::Bytes(s) = plan_read else {
         return;
     };
     let Got::Bytes(j) = journal_read else {
         return;
     };
-    print_story(&sheet[..s], &journal[..j]);
+    print_story(rt, &sheet[..s], &journal[..j]);
 }

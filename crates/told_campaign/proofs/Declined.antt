@@ -10,7 +10,6 @@ use native.Mathlib.Omega.{arith}
 use lib.Dec.{eqb}
 use lib.Seq.{get_or-set_same, get_or-set_other}
 use borrow.Author.Tests.{eq-eqb, ne_eqb}
-use Rattle.bounded.specs.Bounded.{one}
 use Rattle.bounded.proofs.Bools.{same?, clash, and-no-r}
 use Rattle.network.specs.Network.{exposed}
 use Rattle.network.specs.declared.Network.{Network}

@@ -23,7 +23,6 @@ use Rattle.guarantee.proofs.Whole.{Travelled, travel}
 use Rattle.calls.specs.Calls.{network_in, sheet_passes, start_leaves}
 use Rattle.calls.proofs.InOrder.{passing}
 use Rattle.passed_ways.specs.declared.Reason.{Reason}
-use Rattle.passed_ways.specs.Listing.{listing}
 use Rattle.passed_ways.specs.Story.{Because, by_loss, by_lack}
 use Rattle.passed_calls.specs.Shown.{answer}
 use Rattle.passed_calls.proofs.Accepted.{text-small, listed}

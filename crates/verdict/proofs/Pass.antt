@@ -131,9 +131,25 @@ closed-way g sh five (suc k) u v h i e =
       | inr z ↦ clash (gap g (suc k) v) (i & not-i _ z) (any-n (gap g (suc k)) g.n (five k h) v b.1)
     ]) (omega (arith, b.0, sh.bookings)) e
 
+-- refusals 4 to 8 are absent
+pub record Clean (g : Network) : Type 0 where
+  pub four : (b : ℕ) → b < g.n → circular g b ≡ false
+  pub five : (k : ℕ) → k < g.a → unclosed g k ≡ false
+  pub six : (b : ℕ) → b < g.n → unused g b ≡ false
+  pub seven : (k : ℕ) → k < g.a → repeated g k ≡ false
+  pub eight : (k x : ℕ) → k < g.a → x < g.n → stranding g (suc k) x ≡ false
+
+pub clean : (g : Network) → verdict_number (check g) ≡ 0 → Clean g
+clean g e =
+    let c = clean-to 8 g (inl e) in
+    record { four = c.four (omega arith); five = c.five (omega arith); six = c.six (omega arith); seven = c.seven (omega arith); eight = c.eight (omega arith) }
+
 stays-i : (g : Network) (w x s : ℕ) → Stays g w x s → stays g w x s ≡ true
 unfolding stays
 stays-i g w x s t = (t.is-firm & t.inside) & (not-i _ (ne_eqb _ _ t.other) & not-i _ t.apart)
+
+closed : (g : Network) → Shape g → Clean g → (w u v : ℕ) → w ≤ g.a → in_way g w v ≡ true → pre g u v ≡ true → in_way g w u ≡ true
+closed g sh cl = closed-way g sh cl.five
 
 module _ (g : Network) (sh : Shape g) (cl : Clean-to 8 g) where
   staying-i : (w x s : ℕ) → w ≤ g.a → Stays g w x s → member (staying g w x) s ≡ true

@@ -1,4 +1,6 @@
 // The check of a network: refusals 4 to 8.
+#![tactic(auto)]
+
 ghost use Rattle.std.specs.Prelude.{◌≡◌, true, ◌&&◌, suc, ◌≤◌, ◌<◌, length, replicate};
 ghost use Rattle.std.specs.Int.Bits.{bit_and};
 ghost use Rattle.bounded.specs.Bounded.{any, first};
@@ -10,7 +12,7 @@ ghost use Rattle.verdict.specs.Parts.{TakenFrom, Upto, Stay, PointOf};
 use network::Network;
 
 // What the check says: the first fault and where it is, bookings by index and ways by number.
-#[derive(Drop)]
+#[derive(Clone, Copy)]
 pub enum Verdict {
     Pass,
     Circular(usize),
@@ -22,7 +24,7 @@ pub enum Verdict {
 
 // Booking x of way k + 1, to be tried for stranding: before has what precedes it, stay the firm bookings that may be held still when it
 // is lost.
-#[derive(Drop)]
+#[derive(Clone, Copy)]
 struct Point {
     k: usize,
     x: usize,

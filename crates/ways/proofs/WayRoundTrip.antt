@@ -29,7 +29,7 @@ use Rattle.ways.specs.WayText.{members, numbers_text, way_front_bytes, way_bytes
 use Rattle.ways.specs.Way.{count_of, number_there, sequence_or_form, after_number, gather_of, line_feed_at, as_way, members_of, after_count, way_line_of, count_in}
 use Rattle.ways.specs.declared.Gathered.{Gathered}
 use Rattle.ways.specs.declared.Gathered.TheVariants as G
-use Rattle.ways.specs.declared.Way.TheVariants.{Members, Malformed, OutOfLimits, OutOfSequence}
+use Rattle.ways.specs.declared.Way.TheVariants.{Members, Malformed, OutOfLimits}
 use Rattle.ways.proofs.TextLaws.{members-length, front_length}
 use Rattle.ways.proofs.Members.{members-below, insert-members, members-insert-all, members-zero}
 

@@ -1,4 +1,6 @@
 // The ways of a plan sheet: the line of a way, read as a set of bookings and written from it.
+#![tactic(auto)]
+
 ghost use Rattle.std.specs.Prelude.{◌≡◌, ◌+◌, ◌*◌, ◌≤◌, ◌<◌, length, drop};
 ghost use Rattle.std.proofs.lemmas.List.Edits.{sets};
 ghost use Rattle.bounded.specs.Bounded.{one, all};
@@ -13,7 +15,7 @@ use decimal::Field;
 use plan::Judged;
 
 // The numbers of a way as a set, or why they are refused.
-#[derive(Drop)]
+#[derive(Clone, Copy)]
 pub enum Gathered {
     Set(u64),
     Malformed,
@@ -21,7 +23,7 @@ pub enum Gathered {
 }
 
 // What a way line holds: how many bookings, and their set; or why it is refused.
-#[derive(Drop)]
+#[derive(Clone, Copy)]
 pub enum Way {
     Members(usize, u64),
     Malformed,
@@ -30,7 +32,7 @@ pub enum Way {
 }
 
 // What the way lines hold, and the place after the last one that was read.
-#[derive(Drop)]
+#[derive(Clone, Copy)]
 pub struct Ways {
     pub judged: Judged,
     pub next: usize,

@@ -8,7 +8,6 @@ use borrow.Author.Tests.{eq-eqb, ne_eqb, le-leb, lt-leb}
 use lib.ListN.{length, get_or, take, drop, length-append}
 use lib.Seq.{sets}
 use Rattle.decimal.proofs.Stores.{sets-append}
-use Rattle.plan.specs.declared.Judged.TheVariants as J
 use Rattle.run.specs.State.{start}
 use Rattle.run.specs.Bytes.{bytes_of}
 use Rattle.guarantee.specs.Answers.{pack}

@@ -1,5 +1,7 @@
 // Demand 3 of the code itself: a sheet that passes, and any list of the calls that a dispatcher makes, next order, reply and block of
 // replies, is a whole campaign that never strands. `play` makes such a list, and its clause `whole` is the claim.
+#![tactic(auto)]
+
 ghost use Rattle.std.specs.Prelude.{◌≡◌, true, ◌++◌, ◌+◌, ◌*◌, ◌≤◌, ◌<◌, length};
 ghost use Rattle.std.proofs.lemmas.List.Edits.{sets};
 ghost use Rattle.run.specs.State.{start};

@@ -1,4 +1,6 @@
 // Writes the sheet of a plan record into a lent buffer.
+#![tactic(auto)]
+
 ghost use Rattle.std.specs.Prelude.{◌≡◌, ◌≤◌, length};
 ghost use Rattle.std.proofs.lemmas.List.Edits.{sets};
 ghost use Rattle.plan.specs.Limits.{most_bookings, most_links, most_ways};
@@ -8,7 +10,7 @@ ghost use Rattle.writer.specs.Written.{fine_answer, left_by, written_of, leaves}
 use plan::{Judgement, Plan};
 
 // What writing gives: the length of the sheet; or that the record is refused for a count, or for an entry; or that the buffer is too short.
-#[derive(Drop)]
+#[derive(Clone, Copy)]
 pub enum Written {
     Length(usize),
     Count,

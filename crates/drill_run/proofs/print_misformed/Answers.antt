@@ -1,0 +1,11 @@
+-- What is left of `drill_run::print_misformed`.
+-- Assumes nothing.
+use Rattle.std.proofs.Common.{refl}
+use Rattle.drill_lines.proofs.PrintLaws.{refusal-counts}
+use Rattle.drill_run.proofs.print_misformed.Goals as goal
+
+pub slice_bounds-line-end : goal.slice_bounds-line-end
+slice_bounds-line-end c = (refusal-counts _ _ _ _ _ refl c.write_refusal-n.ensures.size c.write_refusal-n.ensures.text).0
+
+pub slice_bounds-print-end-2 : goal.slice_bounds-print-end-2
+slice_bounds-print-end-2 c = (refusal-counts _ _ _ _ _ refl c.write_refusal-n.ensures.size c.write_refusal-n.ensures.text).1

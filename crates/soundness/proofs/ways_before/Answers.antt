@@ -1,0 +1,12 @@
+-- What is left of `soundness::ways_before`.
+-- Assumes nothing.
+use Rattle.run.specs.Sound.{ways_before}
+use Rattle.soundness.proofs.Tests.{way-before}
+use Rattle.soundness.proofs.ways_before.Goals as goal
+
+pub returns-then-w-eq0 : goal.returns-then-w-eq0
+unfolding ways_before
+returns-then-w-eq0 c = rw c.if-w-eq0.true
+
+pub returns : goal.returns
+returns c = way-before c.args.g c.args.w c.if-w-eq0.false
