@@ -137,6 +137,13 @@ def turn(fn, text, aliases, projs, said):
     return out
 
 
+def definition(name, body):
+    """The `unfolding` line of a body, and its parameters and right side."""
+    joined = "\n".join(body)
+    unf = re.match(r"(?:unfolding [^\n]*\n)?", joined).group(0)
+    return unf, re.match(re.escape(name) + r"((?: \S+)*?) =(.*)$", joined[len(unf):], re.S)
+
+
 def convert(path, crate, sub, entry):
     said = []
     text = open(path, encoding="utf-8").read()
@@ -211,17 +218,11 @@ def convert(path, crate, sub, entry):
             said.append(f"no loop {loop}")
             continue
         (n, lv, ch) = hit[0]
-        joined = "\n".join(body)
-        unf = ""
-        mu = re.match(r"unfolding [^\n]*\n", joined)
-        if mu:
-            unf, joined = mu.group(0), joined[mu.end():]
-        m = re.match(re.escape(name) + r"((?: \S+)*?) =(.*)$", joined, re.S)
+        unf, m = definition(name, body)
         if not m:
             said.append(f"invariant {loop} not read")
             continue
         params = m.group(1).split()
-        unchanged = [v for v, c in zip(lv, ch) if not c]
         changed = [v for v, c in zip(lv, ch) if c]
         order = [("l.initial." if c else "l.") + v for v, c in zip(lv, ch)] + ["l." + v for v in changed]
         if len(params) != len(order):
@@ -253,12 +254,7 @@ def convert(path, crate, sub, entry):
             said.append(f"no goal {old}")
             continue
         new, place = hit
-        joined = "\n".join(body)
-        unf = ""
-        mu = re.match(r"unfolding [^\n]*\n", joined)
-        if mu:
-            unf, joined = mu.group(0), joined[mu.end():]
-        m = re.match(re.escape(name) + r"((?: \S+)*?) =(.*)$", joined, re.S)
+        unf, m = definition(name, body)
         if not m:
             said.append(f"answer {name} not read")
             outans.append(f"-- ?? {name} : goal.{new}\n" + "\n".join("-- " + x for x in body))
