@@ -17,8 +17,8 @@ use Rattle.verdict.proofs.Facts.{Passes}
 use Rattle.run.specs.declared.Run.{Run}
 use Rattle.run.proofs.Facts.{Sound}
 use Rattle.event_lines.specs.Line.{line_of, lines_from}
-use Rattle.event_lines.specs.declared.Line.{Line}
-use Rattle.event_lines.specs.declared.Line.TheVariants.{Given, Misformed}
+use Rattle.std.specs.Prelude.{Option, Some, None}
+use Rattle.event_lines.specs.declared.Event.{Event}
 use Rattle.event_lines.proofs.LineLaws.{read-text, line-length}
 use Rattle.guarantee.specs.Answers.{kind_of, place9, reply_bits}
 use Rattle.guarantee.specs.Machine.{Asked, replied, reply_to, answer, after, final}
@@ -35,7 +35,7 @@ use Rattle.any_order.specs.Lines.{rows_from, rows_of, joined, has_six, reply_on,
 pub lines_rows : (n : ℕ) (t : List ℕ) → lines_from n t ≡ map line_of (rows_from n t)
 unfolding lines_from rows_from
 lines_rows zero t = refl
-lines_rows (suc n) t = ap (λ (ls : List Line). line_of (take 6 t) ∷ ls) (lines_rows n (drop 6 t))
+lines_rows (suc n) t = ap (λ (ls : List (Option Event)). line_of (take 6 t) ∷ ls) (lines_rows n (drop 6 t))
 
 -- lines of six bytes, put one after the other, are the lines of that block
 joined_length : (rows : List (List ℕ)) → every has_six rows ≡ true → length (joined rows) ≡ 6 * length rows
@@ -59,10 +59,10 @@ rows-joined rows h =
     rw n (rows-from rows h)
 
 -- the lines of a block have six bytes if they are well formed
-six-bytes : (row : List ℕ) (line : Line) → line_of row ≡ line → is_given line ≡ true → has_six row ≡ true
+six-bytes : (row : List ℕ) (line : Option Event) → line_of row ≡ line → is_given line ≡ true → has_six row ≡ true
 unfolding has_six is_given
-six-bytes row (Given l b) e g = rw (read-text row l b e, line-length l b) refl
-six-bytes row Misformed e g = clash false g refl
+six-bytes row (Some v) e g = rw (read-text row v.letter v.booking e, line-length v.letter v.booking) refl
+six-bytes row None e g = clash false g refl
 
 rows-six : (rows : List (List ℕ)) → every is_given (map line_of rows) ≡ true → every has_six rows ≡ true
 unfolding every
@@ -78,13 +78,13 @@ rows_stay block rows w p =
     rows-joined rows (every-rearranged has_six (rows_from n block) rows p (rows-six (rows_from n block) w'))
 
 -- no order stands on a block's lines
-pub only-replies : (lines : List Line) → no_order (map reply_on lines) ≡ true
+pub only-replies : (lines : List (Option Event)) → no_order (map reply_on lines) ≡ true
 unfolding no_order every is_reply reply_on
 only-replies [] = refl
-only-replies (Given l b ∷ lines) = only-replies lines
-only-replies (Misformed ∷ lines) = only-replies lines
+only-replies (Some v ∷ lines) = only-replies lines
+only-replies (None ∷ lines) = only-replies lines
 
-map-length : (lines : List Line) → length (map reply_on lines) ≡ length lines
+map-length : (lines : List (Option Event)) → length (map reply_on lines) ≡ length lines
 map-length [] = refl
 map-length (line ∷ lines) = ap suc (map-length lines)
 
@@ -102,26 +102,26 @@ module _ (g : Network) (few : g.n ≤ 64) where
   fits-i r l b t = rw (t, kind-pack 6 0 b (omega arith) (taken-small g r l b (reply_to g r l b) few refl t))
 
   -- all replies are accepted, each if it comes alone
-  abbrev pub AllFit : Run → List Line → Type 0
+  abbrev pub AllFit : Run → List (Option Event) → Type 0
   AllFit r lines = every accepts (map (answer g r) (map reply_on lines)) ≡ true
 
   -- after the first of them the others fit as before
-  others-fit : (r : Run) (l b : ℕ) (lines : List Line) → every (not_to b) (map reply_on lines) ≡ true
+  others-fit : (r : Run) (l b : ℕ) (lines : List (Option Event)) → every (not_to b) (map reply_on lines) ≡ true
       → every accepts (map (answer g (after g r (replied l b))) (map reply_on lines)) ≡ every accepts (map (answer g r) (map reply_on lines))
   others-fit r l b lines n = ap (every accepts) (others-alike g r l b (map reply_on lines) (only-replies lines) n)
 
-  kept_whole : (r : Run) (lines : List Line) → every is_given lines ≡ true → AllFit r lines → different (map reply_on lines) ≡ true → kept_of g r lines ≡ map reply_on lines
+  kept_whole : (r : Run) (lines : List (Option Event)) → every is_given lines ≡ true → AllFit r lines → different (map reply_on lines) ≡ true → kept_of g r lines ≡ map reply_on lines
   unfolding every is_given different reply_on kept_of after
   kept_whole r [] w f d = refl
-  kept_whole r (Given l b ∷ lines) w f d =
-      let t = fits-e r l b (and_l (accepts (answer g r (replied l b))) _ f) in
-      let n = and_l (every (not_to b) (map reply_on lines)) _ d in
-      rw t (ap (λ (qs : List Asked). replied l b ∷ qs)
-      (kept_whole (reply_to g r l b).run lines w (others-fit r l b lines n ∙ and_r (accepts (answer g r (replied l b))) _ f) (and_r (every (not_to b) (map reply_on lines)) _ d)))
-  kept_whole r (Misformed ∷ lines) w f d = clash false w refl
+  kept_whole r (Some v ∷ lines) w f d =
+      let t = fits-e r v.letter v.booking (and_l (accepts (answer g r (replied v.letter v.booking))) _ f) in
+      let n = and_l (every (not_to v.booking) (map reply_on lines)) _ d in
+      rw t (ap (λ (qs : List Asked). replied v.letter v.booking ∷ qs)
+      (kept_whole (reply_to g r v.letter v.booking).run lines w (others-fit r v.letter v.booking lines n ∙ and_r (accepts (answer g r (replied v.letter v.booking))) _ f) (and_r (every (not_to v.booking) (map reply_on lines)) _ d)))
+  kept_whole r (None ∷ lines) w f d = clash false w refl
 
   -- all its replies are kept, and nothing is wrong
-  pub block-whole : (r : Run) (lines : List Line) → every is_given lines ≡ true → AllFit r lines → different (map reply_on lines) ≡ true
+  pub block-whole : (r : Run) (lines : List (Option Event)) → every is_given lines ≡ true → AllFit r lines → different (map reply_on lines) ≡ true
       → block_of g r lines ≡ record { kept = length lines; fault = 0; run = final g r (map reply_on lines) }
   unfolding block_of fault_of
   block-whole r lines w f d = rw (kept_whole r lines w f d, map-length lines, drop_of_length-le lines {i = length lines} (le_refl (length lines)))
@@ -130,26 +130,26 @@ module _ (g : Network) (few : g.n ≤ 64) where
 
 module _ (g : Network) (ok : Passes g) where
   -- no line of it is to a booking that has no reply that fits
-  none-to : (r : Run) (b : ℕ) → ((m : ℕ) → (reply_to g r m b).taken ≡ false) → (lines : List Line) → (block_of g r lines).fault ≡ 0 → every (not_to b) (map reply_on lines) ≡ true
+  none-to : (r : Run) (b : ℕ) → ((m : ℕ) → (reply_to g r m b).taken ≡ false) → (lines : List (Option Event)) → (block_of g r lines).fault ≡ 0 → every (not_to b) (map reply_on lines) ≡ true
   unfolding every not_to reply_on block_of kept_of fault_of after
   none-to r b c [] z = refl
-  none-to r b c (Given l x ∷ lines) z = elim (which (reply_to g r l x).taken) [
-    | inl t ↦ (let d : x ≢ b = λ e. clash (reply_to g r l b).taken (rw e at t) (c l) in
-        not-i _ (ne_eqb x b d) & none-to (reply_to g r l x).run b (λ m. fits-same g r m b l x (λ e. d (sym e)) ∙ c m) lines (rw t at z))
+  none-to r b c (Some v ∷ lines) z = elim (which (reply_to g r v.letter v.booking).taken) [
+    | inl t ↦ (let d : v.booking ≢ b = λ e. clash (reply_to g r v.letter b).taken (rw e at t) (c v.letter) in
+        not-i _ (ne_eqb v.booking b d) & none-to (reply_to g r v.letter v.booking).run b (λ m. fits-same g r m b v.letter v.booking (λ e. d (sym e)) ∙ c m) lines (rw t at z))
     | inr n ↦ absurd (let y : ◌≡◌ {A = ℕ} 9 0 = rw n at z in omega arith)
   ]
-  none-to r b c (Misformed ∷ lines) z = absurd (omega arith)
+  none-to r b c (None ∷ lines) z = absurd (omega arith)
 
   -- its lines are well formed, all fit and name different bookings
-  pub whole-told : (r : Run) → Sound g r → (lines : List Line) → (block_of g r lines).fault ≡ 0
+  pub whole-told : (r : Run) → Sound g r → (lines : List (Option Event)) → (block_of g r lines).fault ≡ 0
       → (every is_given lines ≡ true) × (every accepts (map (answer g r) (map reply_on lines)) ≡ true) × (different (map reply_on lines) ≡ true)
   unfolding every is_given different reply_on block_of kept_of fault_of after
   whole-told r s [] z = (refl, refl, refl)
-  whole-told r s (Given l b ∷ lines) z = elim (which (reply_to g r l b).taken) [
+  whole-told r s (Some v ∷ lines) z = elim (which (reply_to g r v.letter v.booking).taken) [
     | inl t ↦ (let y = rw t at z in
-        let n = none-to (reply_to g r l b).run b (once g ok r s l b t) lines y in
-        let p = whole-told (reply_to g r l b).run (moved g ok r s (replied l b)).sound lines y in
-        (p.0, fits-i g ok.shape.bookings r l b t & (sym (others-fit g ok.shape.bookings r l b lines n) ∙ p.1), n & p.2))
+        let n = none-to (reply_to g r v.letter v.booking).run v.booking (once g ok r s v.letter v.booking t) lines y in
+        let p = whole-told (reply_to g r v.letter v.booking).run (moved g ok r s (replied v.letter v.booking)).sound lines y in
+        (p.0, fits-i g ok.shape.bookings r v.letter v.booking t & (sym (others-fit g ok.shape.bookings r v.letter v.booking lines n) ∙ p.1), n & p.2))
     | inr n ↦ absurd (let y : ◌≡◌ {A = ℕ} 9 0 = rw n at z in omega arith)
   ]
-  whole-told r s (Misformed ∷ lines) z = absurd (omega arith)
+  whole-told r s (None ∷ lines) z = absurd (omega arith)

@@ -16,7 +16,8 @@ use Rattle.run.specs.Bytes.{bytes_of, run_of}
 use Rattle.run.specs.declared.Run.{Run}
 use Rattle.run.proofs.Facts.{Sound}
 use Rattle.event_lines.specs.Line.{line_of}
-use Rattle.event_lines.specs.declared.Line.{Line}
+use Rattle.std.specs.Prelude.{Option}
+use Rattle.event_lines.specs.declared.Event.{Event}
 use Rattle.guarantee.specs.Answers.{pack, unsound, kind_of}
 use Rattle.guarantee.specs.Machine.{Asked, answer, after, final}
 use Rattle.guarantee.specs.Counted.{accepts}
@@ -93,7 +94,7 @@ module _ (s : List ℕ) (e : sheet_passes s ≡ true) (r : Run) (k : Sound (netw
 
   -- ---- blocks
 
-  fit_is : (lines : List Line) → every accepts (map (asked_call s (bytes_of r)) (map reply_on lines)) ≡ every accepts (map (answer g r) (map reply_on lines))
+  fit_is : (lines : List (Option Event)) → every accepts (map (asked_call s (bytes_of r)) (map reply_on lines)) ≡ every accepts (map (answer g r) (map reply_on lines))
   fit_is lines = ap (every accepts) (map-ext (asked_call s (bytes_of r)) (answer g r) asked (map reply_on lines))
 
   -- a block that is taken whole

@@ -1,8 +1,8 @@
 -- The lines of a block: as bytes, as replies, and what is asked of them so that their order does not matter.
 -- Assumes nothing.
 use Rattle.std.specs.Prelude.{Bool, true, false, List, [], ◌∷◌, ◌++◌, map, ℕ, zero, suc, ◌+◌, ◌/◌, eqb, length, take, drop}
-use Rattle.event_lines.specs.declared.Line.{Line}
-use Rattle.event_lines.specs.declared.Line.TheVariants.{Given, Misformed}
+use Rattle.std.specs.Prelude.{Option, Some, None}
+use Rattle.event_lines.specs.declared.Event.{Event}
 use Rattle.guarantee.specs.Machine.{Asked, replied}
 use Rattle.guarantee.specs.Counted.{accepts}
 use Rattle.guarantee.specs.AnyOrder.{every, different}
@@ -26,9 +26,9 @@ unfoldable pub has_six : List ℕ → Bool
 has_six row = eqb (length row) 6
 
 -- the reply on each line; a misformed one has none, and it does not matter which is named
-unfoldable pub reply_on : Line → Asked
-reply_on (Given l b) = replied l b
-reply_on Misformed = replied 0 0
+unfoldable pub reply_on : Option Event → Asked
+reply_on (Some v) = replied v.letter v.booking
+reply_on None = replied 0 0
 
 unfoldable pub replies_on : List ℕ → List Asked
 replies_on block = map reply_on (lines_of block)
@@ -36,9 +36,9 @@ replies_on block = map reply_on (lines_of block)
 -- ---- what is asked of a block
 
 -- its lines are well formed
-unfoldable pub is_given : Line → Bool
-is_given (Given l b) = true
-is_given Misformed = false
+unfoldable pub is_given : Option Event → Bool
+is_given (Some v) = true
+is_given None = false
 
 unfoldable pub well_formed : List ℕ → Bool
 well_formed block = every is_given (lines_of block)

@@ -2,7 +2,8 @@
 -- Assumes nothing.
 use mathlib.Core.Path.{◌≡◌, refl, sym, ap}
 use mathlib.Core.Logic.{inl, inr}
-use mathlib.Core.Bool.{true}
+use mathlib.Core.Bool.{true, false}
+use lib.Dec.{eqb}
 use mathlib.Core.List.{List, [], ◌∷◌}
 use Prim.Native.Nat.{ℕ, zero, suc, ◌+◌, ◌≤◌, ◌<◌}
 use native.Mathlib.Omega.{arith}
@@ -14,16 +15,18 @@ use Rattle.bounded.proofs.Sums.{sum_one, sum-most}
 use Rattle.network.specs.declared.Network.{Network}
 use Rattle.standing.specs.Standing.{free, held, lost}
 use Rattle.run.specs.State.{code, put}
-use Rattle.run.specs.Replies.{settle}
+use Rattle.run.specs.Replies.{settle, Replied}
 use Rattle.run.specs.declared.Run.{Run}
-use Rattle.run.specs.declared.Replied.{Replied}
 use Rattle.run.proofs.Cases.{ReplyCase, misfit, confirmed, refused, again, returned, kept, reply-case}
 use Rattle.guarantee.specs.Machine.{reply_to}
 use Rattle.guarantee.proofs.Moved.{awaits}
 use Rattle.run.proofs.Exits.{settle-codes}
+use Rattle.lent_state.specs.Lines.{fault_number}
+use Rattle.lent_state.specs.declared.LineFault.{LineFault}
+use Rattle.lent_state.specs.declared.LineFault.TheVariants.{Misformed, Unfit}
 use Rattle.lent_state.proofs.Limits.{numbered-size}
-use Rattle.event_lines.specs.declared.Line.{Line}
-use Rattle.event_lines.specs.declared.Line.TheVariants.{Given, Misformed}
+use Rattle.std.specs.Prelude.{Option, Some, None}
+use Rattle.event_lines.specs.declared.Event.{Event}
 use Rattle.block_calls.specs.Block.{kept_of, fault_of, block_of}
 
 -- how many replies are awaited
@@ -71,25 +74,31 @@ module _ (g : Network) (few : g.n ≤ 64) (r : Run) (size : length r.code ≡ 64
   numbered-fewer l (suc x) d = reply-fewer l x (reply-case g r l x) d
 
 module _ (g : Network) (few : g.n ≤ 64) where
-  kept-fewer : (r : Run) → length r.code ≡ 64 → (lines : List Line) → length (kept_of g r lines) ≤ opens r
+  kept-fewer : (r : Run) → length r.code ≡ 64 → (lines : List (Option Event)) → length (kept_of g r lines) ≤ opens r
   unfolding kept_of
   kept-fewer r size [] = omega arith
-  kept-fewer r size (Given l b ∷ lines) = elim (which (reply_to g r l b).taken) [
-    | inl e ↦ rw e (omega (arith, numbered-fewer g few r size l b e, kept-fewer (reply_to g r l b).run (numbered-size g r size l b) lines))
+  kept-fewer r size (Some v ∷ lines) = let t = reply_to g r v.letter v.booking in elim (which t.taken) [
+    | inl e ↦ rw e (omega (arith, numbered-fewer g few r size v.letter v.booking e, kept-fewer t.run (numbered-size g r size v.letter v.booking) lines))
     | inr e ↦ rw e (omega arith)
   ]
-  kept-fewer r size (Misformed ∷ lines) = omega arith
+  kept-fewer r size (None ∷ lines) = omega arith
 
-  pub kept-few : (r : Run) → length r.code ≡ 64 → (lines : List Line) → (block_of g r lines).kept ≤ 64
+  pub kept-few : (r : Run) → length r.code ≡ 64 → (lines : List (Option Event)) → (block_of g r lines).kept ≤ 64
   unfolding block_of
   kept-few r size lines = omega (arith, kept-fewer r size lines, opens-few r)
 
-fault-small : (lines : List Line) → fault_of lines ≤ 9
+fault-small : (lines : List (Option Event)) → fault_of lines ≤ 9
 unfolding fault_of
 fault-small [] = omega arith
-fault-small (Given l b ∷ lines) = omega arith
-fault-small (Misformed ∷ lines) = omega arith
+fault-small (Some e ∷ lines) = omega arith
+fault-small (None ∷ lines) = omega arith
 
-pub fault-few : (g : Network) (r : Run) (lines : List Line) → (block_of g r lines).fault ≤ 9
+pub fault-few : (g : Network) (r : Run) (lines : List (Option Event)) → (block_of g r lines).fault ≤ 9
 unfolding block_of
 fault-few g r lines = fault-small (drop (length (kept_of g r lines)) lines)
+
+-- the numbers of the faults
+pub fault-known : (f : LineFault) → (eqb (fault_number f) 0 ≡ false) × (fault_number f ≤ 9)
+unfolding fault_number
+fault-known Misformed = (refl, omega arith)
+fault-known Unfit = (refl, omega arith)

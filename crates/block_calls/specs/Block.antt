@@ -1,32 +1,32 @@
 -- A block of replies: lines of six bytes, taken one after the other up to the first bad one.
 -- Assumes nothing.
-use Rattle.std.specs.Prelude.{cond, List, [], ◌∷◌, ℕ, ◌+◌, ◌/◌, ◌%◌, eqb, length, drop}
+use Rattle.std.specs.Prelude.{Option, Some, None, cond, List, [], ◌∷◌, ℕ, ◌+◌, ◌/◌, ◌%◌, eqb, length, drop}
 use Rattle.event_lines.specs.Line.{lines_from}
-use Rattle.event_lines.specs.declared.Line.{Line}
-use Rattle.event_lines.specs.declared.Line.TheVariants.{Given, Misformed}
+use Rattle.event_lines.specs.declared.Event.{Event}
 use Rattle.network.specs.declared.Network.{Network}
 use Rattle.run.specs.Bytes.{bytes_of, run_of}
 use Rattle.run.specs.declared.Run.{Run}
-use Rattle.run.specs.declared.Replied.{Replied}
 use Rattle.guarantee.specs.Answers.{pack}
 use Rattle.guarantee.specs.Machine.{Asked, replied, reply_to, final}
+use Rattle.lent_state.specs.declared.LineFault.{LineFault}
+use Rattle.lent_state.specs.declared.LineFault.TheVariants.{Misformed}
 use Rattle.calls.specs.Calls.{network_in, in_order, refused_with}
 
 -- all lines of a block; fewer than six bytes at the end are a line too, an unfinished one, and so misformed
-unfoldable pub lines_of : List ℕ → List Line
+unfoldable pub lines_of : List ℕ → List (Option Event)
 lines_of block = lines_from ((length block + 5) / 6) block
 
 -- the replies that are kept, as calls made singly: those before the first line that is misformed or does not fit
-unfoldable pub kept_of : Network → Run → List Line → List Asked
+unfoldable pub kept_of : Network → Run → List (Option Event) → List Asked
 kept_of g r [] = []
-kept_of g r (Given l b ∷ lines) = cond (reply_to g r l b).taken (replied l b ∷ kept_of g (reply_to g r l b).run lines) []
-kept_of g r (Misformed ∷ lines) = []
+kept_of g r (Some e ∷ lines) = let t = reply_to g r e.letter e.booking in cond t.taken (replied e.letter e.booking ∷ kept_of g t.run lines) []
+kept_of g r (None ∷ lines) = []
 
 -- what is wrong with the line after them: 1 where it is misformed, 9 where its reply does not fit; 0 where no line is left
-unfoldable pub fault_of : List Line → ℕ
+unfoldable pub fault_of : List (Option Event) → ℕ
 fault_of [] = 0
-fault_of (Given l b ∷ lines) = 9
-fault_of (Misformed ∷ lines) = 1
+fault_of (Some e ∷ lines) = 9
+fault_of (None ∷ lines) = 1
 
 -- a block taken: how many replies are kept, what is wrong with the next line, and the state after the kept ones
 pub record Block : Type 0 where
@@ -34,12 +34,13 @@ pub record Block : Type 0 where
   pub fault : ℕ
   pub run : Run
 
-unfoldable pub block_of : Network → Run → List Line → Block
+unfoldable pub block_of : Network → Run → List (Option Event) → Block
 block_of g r lines = let kept = kept_of g r lines in record { kept = length kept; fault = fault_of (drop (length kept) lines); run = final g r kept }
 
 -- the same from what is wrong among the whole lines: an unfinished line at the end is misformed
-unfoldable pub with_tail : ℕ → ℕ → ℕ
-with_tail fault n = cond (eqb fault 0) (cond (eqb (n % 6) 0) 0 1) fault
+unfoldable pub with_tail : Option LineFault → ℕ → Option LineFault
+with_tail None n = cond (eqb (n % 6) 0) None (Some Misformed)
+with_tail (Some fault) n = Some fault
 
 -- accepted with the number taken, or the fault with its line
 unfoldable pub bits_of : ℕ → ℕ → ℕ

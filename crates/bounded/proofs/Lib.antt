@@ -5,6 +5,7 @@ pub mod First
 pub mod Sums
 pub mod Lists
 pub mod Loops
+pub mod Sought
 pub mod Extreme
 pub mod Filled
 pub mod Arrays

@@ -1,6 +1,6 @@
 -- Tests, searches, counts and sums over the numbers below a bound. Their laws are in proofs/.
 -- Assumes nothing.
-use Rattle.std.specs.Prelude.{Bool, true, false, cond, ◌&&◌, ◌||◌, List, [], ◌∷◌, ◌++◌, ℕ, zero, suc, ◌+◌}
+use Rattle.std.specs.Prelude.{Bool, true, false, cond, ◌&&◌, ◌||◌, List, [], ◌∷◌, ◌++◌, ℕ, zero, suc, ◌+◌, ltb, Option, Some, None}
 
 -- b where a holds, true elsewhere
 abbrev pub imp : Bool → Bool → Bool
@@ -31,6 +31,10 @@ seek f (suc d) i = let r = seek f d (suc i) in cond (f i) i r
 unfoldable pub first : (ℕ → Bool) → ℕ → ℕ
 unfolding seek
 first f n = seek f n 0
+
+-- the same as an option, as a search gives it
+abbrev pub sought : (ℕ → Bool) → ℕ → Option ℕ
+sought f n = cond (ltb (first f n) n) (Some (first f n)) None
 
 -- the sum of f i over the i below n
 unfoldable pub sum : (ℕ → ℕ) → ℕ → ℕ

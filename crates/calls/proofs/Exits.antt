@@ -1,92 +1,102 @@
 -- What the calls answer, and what they leave, at each of their exits.
 -- Assumes nothing.
 use mathlib.Core.Path.{◌≡◌, refl, sym, ap, subst, ◌∙◌}
-use mathlib.Core.Bool.{Bool, true, false, not, cond}
+use mathlib.Core.Bool.{Bool, true, false, cond}
 use mathlib.Core.Logic.{inl, inr}
-use mathlib.Core.List.{List}
-use Prim.Native.Nat.{ℕ, ◌≤◌, ◌<◌}
+use mathlib.Core.List.{List, [], ◌∷◌}
+use Prim.Native.Nat.{ℕ, zero, suc, ◌≤◌, ◌<◌}
+use native.Mathlib.Omega.{arith}
 use lib.ListN.{length}
 use lib.Dec.{eqb}
-use borrow.Author.Tests.{eq-eqb, ne_eqb, eqb-true, not-true, not-false}
-use Rattle.bounded.proofs.Bools.{which, and_l, and_r}
+use borrow.Author.Tests.{eq-eqb, ne_eqb}
+use Rattle.std.specs.Prelude.{Result, Ok, Err, IsErrAnd, Some, None}
+use Rattle.bounded.proofs.Bools.{which, clash, and_l, and_r, ◌&◌, and-no-l, and-no-r}
 use Rattle.plan.specs.Limits.{ours}
-use Rattle.plan.specs.Judging.{is_fine, judged_place}
-use Rattle.plan.specs.Outline.{outline_of, plan_of}
+use Rattle.plan.specs.Judging.{Judged, is_fine}
+use Rattle.plan.specs.Outline.{plan_of}
+use Rattle.plan.specs.declared.Fault.{Fault}
 use Rattle.plan.specs.declared.Limits.{Limits}
-use Rattle.plan.specs.declared.Judged.{Judged}
+use Rattle.plan.specs.declared.Outline.{Outline}
 use Rattle.plan.specs.declared.Plan.{Plan}
-use Rattle.plan.proofs.Valid.{Valid}
-use Rattle.sheet.specs.Sheet.{sheet_within, sheet_of}
+use Rattle.sheet.specs.Sheet.{sheet_within, given}
 use Rattle.sheet.specs.Outlined.{outlined_of, links_read}
-use Rattle.sheet.specs.declared.Sheet.{Sheet}
-use Rattle.sheet.specs.declared.Outlined.{Outlined}
 use Rattle.sheet.proofs.SheetLaws.{read-fine}
 use Rattle.sheet.proofs.Places.{sheet-small}
 use Rattle.sheet.proofs.Accepted.{sheet-valid}
 use Rattle.network.specs.declared.Network.{Network}
-use Rattle.verdict.specs.declared.Verdict.{Verdict}
+use Rattle.network.specs.declared.Chart.{Chart}
 use Rattle.network.specs.FromPlan.{network_of, Ends, Seated}
 use Rattle.network.proofs.Plans.{valid-fits}
-use Rattle.verdict.specs.Check.{check}
+use Rattle.verdict.specs.Check.{Verdict, check, verdict_number, verdict_place}
+use Rattle.verdict.specs.declared.Fault.{Fault as PlanFault}
+use Rattle.verdict.specs.declared.Fault.TheVariants.{Circular, Unclosed, Unused, Repeated, Stranding}
+use Rattle.verdict.proofs.Places.{verdict-small}
 use Rattle.run.specs.declared.Run.{Run}
 use Rattle.standing.specs.declared.Standing.{Standing}
 use Rattle.run.specs.State.{start, standing}
 use Rattle.run.specs.Sound.{sound}
 use Rattle.run.specs.Bytes.{bytes_of, run_of, sound_bytes}
+use Rattle.run.specs.Replies.{Replied, kept_of}
+use Rattle.run.proofs.Cases.{ReplyCase, misfit, confirmed, refused, again, returned, kept, reply-case}
 use Rattle.run.proofs.SoundTest.{sound-way}
-use Rattle.guarantee.specs.Answers.{pack, check_bits, unsound}
-use Rattle.guarantee.specs.Machine.{Asked, answer, after}
+use Rattle.guarantee.specs.Answers.{pack, check_bits, reply_bits}
+use Rattle.guarantee.specs.Machine.{Asked, replied, reply_to, answer, after}
+use Rattle.guarantee.proofs.Numbers.{small-9, taken-small}
 use Rattle.guarantee.specs.Calls.{call_bits, call_bytes}
-use Rattle.calls.specs.declared.Checked.{Checked}
+use Rattle.calls.specs.declared.Refusal.{Refusal}
+use Rattle.calls.specs.declared.Refusal.TheVariants.{Sheet as NoSheet, Plan as NoPlan, Reply, State}
 use Rattle.calls.specs.declared.Planned.{Planned}
 use Rattle.calls.specs.declared.Campaign.{Campaign}
-use Rattle.calls.specs.Calls.{network_within, network_in, passes, sheet_passes, judged_bits, check_within, no_network, planned_read, planned_within, checked_within, checked_of, start_call, start_leaves, asked_call, asked_leaves, in_order, refused_with, turned_away, looked_at, taken_up}
+use Rattle.calls.specs.Calls.{network_within, network_in, passes, passes_within, sheet_passes, judged_bits, check_within, check_call, start_call, start_leaves, asked_call, asked_leaves, in_order, refused_with}
+use Rattle.calls.specs.Refusals.{refusal_bits, refusal_place, Answers, Judges, Refused, Passed, PlanTold, Stood, TakenUp}
+
+-- what a `?` gives on is the refusal that it found
+pub on-err : {A E : Type 0} (P : Result A E → Type 0) (r : Result A E) (x : E) → IsErrAnd r (λ e. e ≡ x) → P (Err x) → P r
+on-err P (Ok y) x h p = absurd h
+on-err P (Err e) x h p = rw h p
 
 -- the counts of a plan that reads are within the limits of every sheet
 pub fine-bounds : (most : Limits) (s : List ℕ) → is_fine (sheet_within most s).judged ≡ true → ((network_within most s).n ≤ 64) × ((network_within most s).a ≤ 16)
 unfolding network_within network_of
 fine-bounds most s e = let v = sheet-valid most s e in (v.counts.bookings, v.counts.ways)
 
--- ---- the sheet, read and checked
+-- ---- a sheet that is read
+
+-- what is told of it
+told-fault : (j : Judged) (o : Outline) (f : Fault) → Err f ≡ given j o → j ≡ Err f
+told-fault (Ok u) o f e = absurd (cc)
+told-fault (Err g) o f e = cc
+
+told-fine : (j : Judged) (o p : Outline) → Ok p ≡ given j o → (is_fine j ≡ true) × (p ≡ o)
+told-fine (Ok u) o p e = (refl, cc)
+told-fine (Err g) o p e = absurd (cc)
+
+given-fine : (j : Judged) (p q : Plan) → Ok p ≡ given j q → p ≡ q
+given-fine (Ok u) p q e = cc
+given-fine (Err g) p q e = absurd (cc)
 
 module _ (most : Limits) (s : List ℕ) where
-  pub checked-refused : (j : Judged) (t : Bool) (x : ℕ) (g : Network) → j ≡ (sheet_within most s).judged → t ≡ is_fine j → not t ≡ true → x ≡ judged_bits j → g ≡ no_network
-      → ◌≡◌ {A = Checked} (record { passes = false; bits = x; network = g }) (checked_within most s)
-  unfolding checked_within
-  checked-refused j t x g e f n q eg = let o : is_fine j ≡ false = sym f ∙ not-true t n in rw (← e, o, q, eg)
+  -- a line of it is refused
+  pub unread : (f : Fault) → Err f ≡ outlined_of (sheet_within most s) → (sheet_within most s).judged ≡ Err f
+  unread f e = told-fault (sheet_within most s).judged _ f e
 
-  pub checked-read : (g : Network) (v : Verdict) (x : ℕ) (t : Bool) → is_fine (sheet_within most s).judged ≡ true → g ≡ network_within most s → v ≡ check g → x ≡ check_bits v → t ≡ passes v
-      → ◌≡◌ {A = Checked} (record { passes = t; bits = x; network = g }) (checked_within most s)
-  unfolding checked_within
-  checked-read g v x t f eg ev ex et = rw (f, et, ex, ev, eg)
+  pub unread-refused : (f : Fault) → (sheet_within most s).judged ≡ Err f → Refused (is_fine (sheet_within most s).judged) (judged_bits (sheet_within most s).judged) (NoSheet f)
+  unfolding refusal_bits refusal_place
+  unread-refused f j = record { fails = rw j refl; bits = rw j refl; fits = rw j at (sheet-small most s) }
 
-  -- what was worked out has the answer of check
-  pub bits_is : (c : Checked) → c ≡ checked_within most s → c.bits ≡ check_within most s
-  unfolding checked_within check_within
-  bits_is c e = ap (λ (x : Checked). x.bits) e ∙ elim (which (is_fine (sheet_within most s).judged)) [ inl f ↦ rw f | inr f ↦ rw f ]
-
--- a sheet read so that its links stand beside its plan
-module _ (most : Limits) (s : List ℕ) (r : Outlined) (us vs : List ℕ) (er : r ≡ outlined_of (sheet_within most s)) (eu : us ≡ (links_read most s).from) (ev : vs ≡ (links_read most s).to) where
-  pub read-fits : judged_place r.judged < 65536
-  read-fits = rw er (sheet-small most s)
-
-  pub read-refused : (t : Bool) (x : ℕ) (g : Network) → t ≡ is_fine r.judged → t ≡ false → x ≡ judged_bits r.judged → g ≡ no_network
-      → ◌≡◌ {A = Planned} (record { passes = false; bits = x; network = g; outline = r.outline }) (planned_within most s)
-  unfolding planned_read
-  read-refused t x g f n q eg = let o : is_fine (sheet_within most s).judged ≡ false = rw er at (sym f ∙ n) in rw (o, q, eg, er)
-
-  module _ (t : Bool) (f : t ≡ is_fine r.judged) (y : t ≡ true) where
+  -- it reads, and its links stand beside its plan
+  module _ (o : Outline) (us vs : List ℕ) (e : Ok o ≡ outlined_of (sheet_within most s)) (eu : us ≡ (links_read most s).from) (ev : vs ≡ (links_read most s).to) where
     fine : is_fine (sheet_within most s).judged ≡ true
-    fine = rw er at (sym f ∙ y)
+    fine = (told-fine (sheet_within most s).judged _ o e).0
 
-    plan-is : plan_of r.outline us vs ≡ (sheet_within most s).plan
-    plan-is = rw (er, eu, ev) (ap (λ (x : Sheet). x.plan) (read-fine most s fine))
+    plan-is : plan_of o us vs ≡ (sheet_within most s).plan
+    plan-is = rw (eu, ev) (given-fine (sheet_within most s).judged _ _ (read-fine most s o e))
 
     -- what the check of the plan relies on
-    pub can-network : (r.outline.n ≤ 64) × Ends r.outline.n us vs r.outline.m × Seated r.outline.n r.outline.desk
+    pub can-network : (o.n ≤ 64) × Ends o.n us vs o.m × Seated o.n o.desk
     can-network = subst (λ (p : Plan). (p.n ≤ 64) × Ends p.n p.from p.to p.m × Seated p.n p.desk) (sym plan-is) (valid-fits _ (sheet-valid most s fine))
 
-    module _ (g : Network) (eg : g ≡ network_of (plan_of r.outline us vs)) where
+    module _ (g : Network) (eg : g ≡ network_of (plan_of o us vs)) where
       network-read : g ≡ network_within most s
       unfolding network_within
       network-read = eg ∙ ap network_of plan-is
@@ -94,87 +104,148 @@ module _ (most : Limits) (s : List ℕ) (r : Outlined) (us vs : List ℕ) (er : 
       pub can-check : (g.n ≤ 64) × (g.a ≤ 16)
       can-check = rw network-read (fine-bounds most s fine)
 
-      pub read-checked : (v : Verdict) (x : ℕ) (k : Bool) → v ≡ check g → x ≡ check_bits v → k ≡ passes v
-          → ◌≡◌ {A = Planned} (record { passes = k; bits = x; network = g; outline = r.outline }) (planned_within most s)
-      unfolding planned_read network_within
-      read-checked v x k ev ex ek = rw (fine, ek, ex, ev, network-read, er)
+      pub plan-told : (c : Chart) (v : Verdict) → c.network ≡ g → v ≡ check c.network → PlanTold most s (record { outline = o; chart = c; verdict = v })
+      plan-told c v ec q = record {
+        reads = fine;
+        outline = (told-fine (sheet_within most s).judged _ o e).1;
+        network = ec ∙ network-read;
+        verdict = q ∙ ap check (ec ∙ network-read);
+      }
 
--- what was worked out with the plan is what is worked out without it
-module _ (most : Limits) (s : List ℕ) (c : Planned) (e : c ≡ planned_within most s) where
-  pub planned-checked : ◌≡◌ {A = Checked} (record { passes = c.passes; bits = c.bits; network = c.network }) (checked_within most s)
-  unfolding planned_read checked_within network_within
-  planned-checked = rw e (elim (which (is_fine (sheet_within most s).judged)) [ inl f ↦ rw f | inr f ↦ rw f ])
+-- ---- a sheet that is judged
 
-  pub outline-is : c.outline ≡ outline_of (sheet_within most s).plan
-  unfolding planned_read
-  outline-is = rw e (elim (which (is_fine (sheet_within most s).judged)) [ inl f ↦ rw f | inr f ↦ rw f ])
+-- a fault is a refusal with its number and its place
+pub fault-bits : (f : PlanFault) → check_bits (Err f) ≡ pack 0 (verdict_number (Err f)) (verdict_place (Err f))
+unfolding check_bits verdict_number
+fault-bits (Circular b) = refl
+fault-bits (Unclosed w) = refl
+fault-bits (Unused b) = refl
+fault-bits (Repeated w) = refl
+fault-bits (Stranding w b) = refl
 
-  pub planned-bits : c.bits ≡ check_within most s
-  planned-bits = bits_is most s _ planned-checked
+pub fault-few : (f : PlanFault) → verdict_number (Err f) ≤ 8
+unfolding verdict_number
+fault-few (Circular b) = omega arith
+fault-few (Unclosed w) = omega arith
+fault-few (Unused b) = omega arith
+fault-few (Repeated w) = omega arith
+fault-few (Stranding w b) = omega arith
+
+fault-fails : (f : PlanFault) → passes (Err f) ≡ false
+unfolding passes verdict_number
+fault-fails (Circular b) = refl
+fault-fails (Unclosed w) = refl
+fault-fails (Unused b) = refl
+fault-fails (Repeated w) = refl
+fault-fails (Stranding w b) = refl
+
+fine-passes : passes (Ok tt) ≡ true
+unfolding passes verdict_number
+fine-passes = refl
+
+module _ (most : Limits) (s : List ℕ) where
+  pub judged-unread : (r : Refusal) → Refused (is_fine (sheet_within most s).judged) (judged_bits (sheet_within most s).judged) r → Refused (passes_within most s) (check_within most s) r
+  unfolding check_within
+  judged-unread r f = record { fails = and-no-l (is_fine (sheet_within most s).judged) _ f.fails; bits = f.bits ∙ rw f.fails refl; fits = f.fits }
+
+  module _ (p : Planned) (t : PlanTold most s p) where
+    few : ((network_within most s).n ≤ 64) × ((network_within most s).a ≤ 16)
+    few = fine-bounds most s t.reads
+
+    -- the fault of a plan that is read, as an answer
+    pub fault-refused : (f : PlanFault) → p.verdict ≡ Err f → Refused (passes_within most s) (check_within most s) (NoPlan f)
+    unfolding check_within refusal_bits refusal_place
+    fault-refused f e =
+        let q : check (network_within most s) ≡ Err f = sym t.verdict ∙ e in
+        record {
+          fails = and-no-r (is_fine (sheet_within most s).judged) _ (ap passes q ∙ fault-fails f);
+          bits = rw (t.reads, q) refl;
+          fits = rw q at (verdict-small (network_within most s) few.0 few.1);
+        }
+
+    pub fine-passed : (u : Unit {0}) → p.verdict ≡ Ok u → Passed (passes_within most s) (network_within most s) p.chart
+    fine-passed u e = record { holds = t.reads & (ap passes (sym t.verdict ∙ e) ∙ fine-passes); network = t.network }
+
+  -- a sheet that passes is accepted
+  pub accepts : passes_within most s ≡ true → check_within most s ≡ pack 6 0 0
+  unfolding check_within check_bits passes
+  accepts e = rw (and_l (is_fine (sheet_within most s).judged) _ e, and_r (is_fine (sheet_within most s).judged) _ e) refl
+
+  -- the 32 bits of what was judged
+  abbrev pub judged-answer : Result Chart Refusal → ℕ
+  judged-answer (Ok c) = pack 6 0 0
+  judged-answer (Err r) = refusal_bits r
+
+  -- are the answer of check
+  pub bits_is : (t : Result Chart Refusal) → Judges (passes_within most s) (network_within most s) (check_within most s) t → judged-answer t ≡ check_within most s
+  bits_is (Ok c) j = sym (accepts j.holds)
+  bits_is (Err r) j = j.bits
 
 -- ---- our sheet
 
 module _ (s : List ℕ) where
-  module _ (c : Checked) (e : c ≡ checked_of s) where
-    passes-is : c.passes ≡ sheet_passes s
-    unfolding checked_within sheet_passes
-    passes-is = ap (λ (x : Checked). x.passes) e ∙ elim (which (is_fine (sheet_of s).judged)) [ inl f ↦ rw f | inr f ↦ rw f ]
+  pub accepted : sheet_passes s ≡ true → check_call s ≡ pack 6 0 0
+  unfolding sheet_passes
+  accepted e = accepts ours s e
 
-    -- the sheet is refused
-    module _ (n : not c.passes ≡ true) where
-      pub fails : sheet_passes s ≡ false
-      fails = sym passes-is ∙ not-true c.passes n
+  pub passing-few : sheet_passes s ≡ true → ((network_in s).n ≤ 64) × ((network_in s).a ≤ 16)
+  unfolding sheet_passes
+  passing-few e = fine-bounds ours s (and_l (is_fine (sheet_within ours s).judged) _ e)
 
-      pub start-refused : (bs : List ℕ) → (c.bits ≡ start_call s bs) × (bs ≡ start_leaves s bs)
+  module _ (bs : List ℕ) where
+    pub start-refused : (r : Refusal) → Refused (sheet_passes s) (check_call s) r → Answers (start_call s bs) (Err r) × (bs ≡ start_leaves s bs)
+    unfolding start_call start_leaves
+    start-refused r f = (record { bits = f.bits ∙ rw f.fails refl; fits = f.fits }, rw f.fails refl)
+
+    module _ (p : sheet_passes s ≡ true) where
+      pub start-short : (length bs ≡ 65 → ⊥) → Answers (start_call s bs) (Err State) × (bs ≡ start_leaves s bs)
+      unfolding start_call start_leaves refusal_bits refusal_place
+      start-short h = (record { bits = rw (p, ne_eqb (length bs) 65 h) refl; fits = omega arith }, rw (p, ne_eqb (length bs) 65 h) refl)
+
+      pub start-done : length bs ≡ 65 → (x : ℕ) → x ≡ pack 6 0 0 → (r : Run) → r ≡ start → (after : List ℕ) → after ≡ bytes_of r
+          → Answers (start_call s bs) (Ok x) × (after ≡ start_leaves s bs)
       unfolding start_call start_leaves
-      start-refused bs = (rw fails (bits_is ours s c e), rw fails refl)
+      start-done h x q r er after ea = (record { bits = rw (p, eq-eqb (length bs) 65 h) q; fits = tt }, rw (p, eq-eqb (length bs) 65 h, ← er) ea)
 
-    -- the sheet passes
-    module _ (n : not c.passes ≡ false) where
-      pub holds : sheet_passes s ≡ true
-      holds = sym passes-is ∙ not-false c.passes n
+    -- ---- a campaign that is taken up
 
-      pub reads : is_fine (sheet_of s).judged ≡ true
-      unfolding sheet_passes
-      reads = and_l (is_fine (sheet_of s).judged) _ holds
+    pub away : (r : Refusal) → Refused (sheet_passes s) (check_call s) r → Refused (in_order s bs) (refused_with s) r
+    unfolding in_order refused_with
+    away r f = record { fails = and-no-l (sheet_passes s) _ f.fails; bits = f.bits ∙ rw f.fails refl; fits = f.fits }
 
-      pub network-is : c.network ≡ network_in s
-      unfolding checked_within
-      network-is = ap (λ (x : Checked). x.network) e ∙ rw reads refl
+    module _ (p : sheet_passes s ≡ true) (c : Chart) (ec : c.network ≡ network_in s) where
+      pub unsound-away : sound_bytes c.network bs ≡ false → Refused (in_order s bs) (refused_with s) State
+      unfolding in_order refused_with refusal_bits refusal_place
+      unsound-away f = record { fails = and-no-r (sheet_passes s) _ (rw ec at f); bits = rw p refl; fits = omega arith }
 
-      pub bounded : (c.network.n ≤ 64) × (c.network.a ≤ 16)
-      bounded = rw network-is (fine-bounds ours s reads)
+      pub taken-up : (u : Campaign) → Stood c.network bs u → TakenUp s bs u
+      unfolding in_order
+      taken-up u t = record { order = p & (rw ec at t.sound); size = t.size; network = t.network ∙ ec; run = t.run; standing = t.standing; way = t.way }
 
-      pub start-short : (bs : List ℕ) → (length bs ≡ 65 → ⊥) → (x : ℕ) → x ≡ pack 0 11 0 → (x ≡ start_call s bs) × (bs ≡ start_leaves s bs)
-      unfolding start_call start_leaves unsound
-      start-short bs h x q = (rw (holds, ne_eqb (length bs) 65 h) q, rw (holds, ne_eqb (length bs) 65 h) refl)
+-- what the bytes of a state are
+module _ (c : Chart) (bs : List ℕ) where
+  pub short-bytes : (length bs ≡ 65 → ⊥) → sound_bytes c.network bs ≡ false
+  unfolding sound_bytes
+  short-bytes h = and-no-l (eqb (length bs) 65) _ (ne_eqb (length bs) 65 h)
 
-      pub start-done : (bs : List ℕ) → length bs ≡ 65 → (x : ℕ) → x ≡ pack 6 0 0 → (r : Run) → r ≡ start → (after : List ℕ) → after ≡ bytes_of r → (x ≡ start_call s bs) × (after ≡ start_leaves s bs)
-      unfolding start_call start_leaves
-      start-done bs h x q r er after ea = (rw (holds, eq-eqb (length bs) 65 h) q, rw (holds, eq-eqb (length bs) 65 h, ← er) ea)
+  module _ (h : length bs ≡ 65) (r : Run) (er : r ≡ run_of bs) (t : Bool) (et : t ≡ sound c.network r) where
+    sound-is : t ≡ sound c.network (run_of bs)
+    sound-is = et ∙ ap (sound c.network) er
 
-      -- the state is not 65 bytes
-      pub short : (bs : List ℕ) → (length bs ≡ 65 → ⊥) → (x : ℕ) (t : Campaign) → x ≡ pack 0 11 0 → t ≡ turned_away x → t ≡ taken_up s bs
-      unfolding taken_up in_order refused_with sound_bytes unsound
-      short bs h x t q et = rw (holds, ne_eqb (length bs) 65 h, et, q)
+    pub unsound-bytes : t ≡ false → sound_bytes c.network bs ≡ false
+    unfolding sound_bytes
+    unsound-bytes f = and-no-r (eqb (length bs) 65) _ (sym sound-is ∙ f)
 
-      module _ (bs : List ℕ) (h : length bs ≡ 65) (r : Run) (er : r ≡ run_of bs) (t : Bool) (et : t ≡ sound c.network r) where
-        sound-is : t ≡ sound (network_in s) (run_of bs)
-        sound-is = et ∙ rw (er, network-is) refl
-
-        pub unsound-away : not t ≡ true → (x : ℕ) (u : Campaign) → x ≡ pack 0 11 0 → u ≡ turned_away x → u ≡ taken_up s bs
-        unfolding taken_up in_order refused_with sound_bytes unsound
-        unsound-away m x u q eu = rw (holds, eq-eqb (length bs) 65 h, sym sound-is ∙ not-true t m, eu, q)
-
-        pub taken : not t ≡ false → (y : Standing) → y ≡ standing c.network r
-            → ◌≡◌ {A = Campaign} (record { sound = true; bits = 0; network = c.network; run = r; standing = y }) (taken_up s bs)
-        unfolding taken_up in_order sound_bytes
-        taken m y ey = rw (holds, eq-eqb (length bs) 65 h, sym sound-is ∙ not-false t m, ey, er, network-is)
-
-    -- the sheet is refused
-    pub away : not c.passes ≡ true → (bs : List ℕ) (t : Campaign) → t ≡ turned_away c.bits → t ≡ taken_up s bs
-    unfolding taken_up in_order refused_with
-    away n bs t et = rw (fails n, et, bits_is ours s c e)
+    pub stood : t ≡ true → (y : Standing) → y ≡ standing c.network r → Stood c.network bs (record { chart = c; run = r; standing = y })
+    unfolding sound_bytes
+    stood m y ey = record {
+      sound = eq-eqb (length bs) 65 h & (sym sound-is ∙ m);
+      size = h;
+      network = refl;
+      run = er;
+      standing = ey;
+      way = rw er (sound-way c.network (run_of bs) (sym sound-is ∙ m) c.few_ways);
+    }
 
 -- ---- a step on a campaign
 
@@ -186,58 +257,75 @@ refused-asked s bs o q = elim (which (sheet_passes s)) [
   | inr p ↦ (rw p, rw p)
 ]
 
-module _ (s bs : List ℕ) (c : Campaign) (e : c ≡ taken_up s bs) where
-  order_is : c.sound ≡ in_order s bs
-  unfolding taken_up turned_away
-  order_is = ap (λ (x : Campaign). x.sound) e ∙ go (in_order s bs)
-    where
-      go : (f : Bool) → (cond f (looked_at (network_in s) (run_of bs)) (turned_away (refused_with s))).sound ≡ f
-      go true = refl
-      go false = refl
+-- the bytes of a state are those of the state that they hold
+pub bytes_run : (bs : List ℕ) → length bs ≡ 65 → bytes_of (run_of bs) ≡ bs
+unfolding bytes_of run_of
+bytes_run [] h = absurd (omega arith)
+bytes_run (x ∷ xs) h = refl
 
-  -- it is not taken up
-  pub not_taken : not c.sound ≡ true → (in_order s bs ≡ false) × (c.bits ≡ refused_with s)
-  unfolding taken_up turned_away
-  not_taken n = let o : in_order s bs ≡ false = sym order_is ∙ not-true c.sound n in (o, ap (λ (x : Campaign). x.bits) e ∙ rw o)
+module _ (s bs : List ℕ) where
+  pub asked-refused : (r : Refusal) → Refused (in_order s bs) (refused_with s) r → (q : Asked) → Answers (asked_call s bs q) (Err r) × (bs ≡ asked_leaves s bs q)
+  asked-refused r f q = let t = refused-asked s bs f.fails q in (record { bits = f.bits ∙ t.0; fits = f.fits }, t.1)
 
-  pub asked-refused : not c.sound ≡ true → (q : Asked) → (c.bits ≡ asked_call s bs q) × (bs ≡ asked_leaves s bs q)
-  asked-refused n q =
-      let (o, b) = not_taken n in
-      let t = refused-asked s bs o q in
-      (b ∙ t.0, t.1)
-
-  -- it is taken up
-  module _ (n : not c.sound ≡ false) where
-    pub in_order_lem : in_order s bs ≡ true
-    in_order_lem = sym order_is ∙ not-false c.sound n
-
+  module _ (c : Campaign) (t : TakenUp s bs c) where
     passing : sheet_passes s ≡ true
     unfolding in_order
-    passing = and_l (sheet_passes s) _ in_order_lem
+    passing = and_l (sheet_passes s) _ t.order
 
     sound-state : sound_bytes (network_in s) bs ≡ true
     unfolding in_order
-    sound-state = and_r (sheet_passes s) _ in_order_lem
+    sound-state = and_r (sheet_passes s) _ t.order
 
-    pub size : length bs ≡ 65
-    unfolding sound_bytes
-    size = eqb-true (length bs) 65 (and_l (eqb (length bs) 65) _ sound-state)
+    -- the answer to a call, and what it leaves
+    pub step-answers : (q : Asked) (x : ℕ) → x ≡ answer c.chart.network c.run q → x ≡ asked_call s bs q
+    unfolding asked_call call_bits
+    step-answers q x p = rw (passing, sound-state) (rw (t.network, t.run) at p)
 
-    pub taken_is : c ≡ looked_at (network_in s) (run_of bs)
-    unfolding taken_up
-    taken_is = e ∙ rw in_order_lem
+    pub step-leaves : (q : Asked) (bytes : List ℕ) → bytes ≡ bytes_of (after c.chart.network c.run q) → bytes ≡ asked_leaves s bs q
+    unfolding asked_leaves call_bytes
+    step-leaves q bytes w = rw (passing, sound-state) (rw (t.network, t.run) at w)
 
-    pub run_is : c.run ≡ run_of bs
-    run_is = rw taken_is
+-- ---- a reply
 
-    -- what next order and reply rely on
-    pub ready : (c.network.n ≤ 64) × (c.network.a ≤ 16) × (c.run.way ≤ 16) × (c.standing ≡ standing c.network c.run)
-    unfolding sheet_passes sound_bytes
-    ready =
-        let b = fine-bounds ours s (and_l (is_fine (sheet_of s).judged) _ passing) in
-        rw taken_is (b.0, b.1, sound-way (network_in s) (run_of bs) (and_r (eqb (length bs) 65) _ sound-state) b.1, refl)
+left-by : (g : Network) (r : Run) (l b : ℕ) {t : Replied} → ReplyCase g r l b t → t.taken ≡ false → t.run ≡ r
+left-by g r l b misfit n = refl
+left-by g r l b (confirmed h m e) n = clash true refl n
+left-by g r l b (refused h m e z) n = clash true refl n
+left-by g r l b (again h m e z) n = clash true refl n
+left-by g r l b (returned h m e) n = clash true refl n
+left-by g r l b (kept h m e) n = clash true refl n
 
-    pub asked-done : (q : Asked) (x : ℕ) → x ≡ answer c.network c.run q → (bytes : List ℕ) → bytes ≡ bytes_of (after c.network c.run q)
-        → (x ≡ asked_call s bs q) × (bytes ≡ asked_leaves s bs q)
-    unfolding asked_call asked_leaves call_bits call_bytes
-    asked-done q x p bytes w = (rw (passing, sound-state) (rw taken_is at p), rw (passing, sound-state) (rw taken_is at w))
+-- one that does not fit changes nothing
+left-run : (g : Network) (r : Run) (l b : ℕ) → (reply_to g r l b).taken ≡ false → (reply_to g r l b).run ≡ r
+unfolding reply_to
+left-run g r l zero n = refl
+left-run g r l (suc b) n = left-by g r l b (reply-case g r l b) n
+
+kept-some : (k : Bool) (u r : Run) → Some u ≡ cond k (Some r) None → (k ≡ true) × (u ≡ r)
+kept-some true u r e = (refl, cc)
+kept-some false u r e = absurd (cc)
+
+kept-none : (k : Bool) (r : Run) → None ≡ cond k (Some r) None → k ≡ false
+kept-none true r e = absurd (cc)
+kept-none false r e = refl
+
+module _ (s bs : List ℕ) (c : Campaign) (t : TakenUp s bs c) (l b : ℕ) where
+  -- it fits
+  module _ (u : Run) (e : Some u ≡ kept_of (reply_to c.chart.network c.run l b)) where
+    pub reply-small : b < 65536
+    reply-small = taken-small c.chart.network c.run l b _ c.chart.few_bookings refl (kept-some _ u _ e).0
+
+    pub reply-done : (x : ℕ) → x ≡ pack 6 0 b → (bytes : List ℕ) → bytes ≡ bytes_of u → Answers (asked_call s bs (replied l b)) (Ok x) × (bytes ≡ asked_leaves s bs (replied l b))
+    unfolding answer after reply_bits
+    reply-done x p bytes w =
+        let k = kept-some _ u _ e in
+        (record { bits = step-answers s bs c t (replied l b) x (p ∙ rw k.0 refl); fits = tt }, step-leaves s bs c t (replied l b) bytes (w ∙ ap bytes_of k.1))
+
+  -- it does not
+  pub reply-refused : None ≡ kept_of (reply_to c.chart.network c.run l b) → Answers (asked_call s bs (replied l b)) (Err (Reply b)) × (bs ≡ asked_leaves s bs (replied l b))
+  unfolding answer after reply_bits refusal_bits refusal_place
+  reply-refused e =
+      let k = kept-none _ _ e in (
+        record { bits = step-answers s bs c t (replied l b) _ (rw k refl); fits = omega (arith, small-9 b) },
+        step-leaves s bs c t (replied l b) bs (sym (bytes_run bs t.size) ∙ ap bytes_of (sym t.run ∙ sym (left-run c.chart.network c.run l b k))),
+      )

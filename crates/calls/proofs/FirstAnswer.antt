@@ -9,15 +9,14 @@ use native.Mathlib.Omega.{arith}
 use lib.ListN.{length}
 use borrow.Author.Tests.{eq-eqb}
 use Rattle.bounded.proofs.Bools.{which, clash}
-use Rattle.plan.specs.Judging.{is_fine, judged_place}
+use Rattle.plan.specs.Judging.{Judged, is_fine, judged_place}
 use Rattle.plan.specs.Limits.{ours}
-use Rattle.plan.specs.declared.Judged.{Judged}
 use Rattle.plan.proofs.RecordLaws.{refusal-few}
 use Rattle.sheet.specs.Sheet.{sheet_of}
 use Rattle.sheet.proofs.Places.{sheet-small}
-use Rattle.verdict.specs.declared.Verdict.{Verdict}
-use Rattle.verdict.specs.declared.Verdict.TheVariants.{Pass, Circular, Unclosed, Unused, Repeated, Stranding}
-use Rattle.verdict.specs.Check.{check, verdict_number, verdict_place}
+use Rattle.std.specs.Prelude.{Ok, Err}
+use Rattle.verdict.specs.declared.Fault.TheVariants.{Circular, Unclosed, Unused, Repeated, Stranding}
+use Rattle.verdict.specs.Check.{Verdict, check, verdict_number, verdict_place}
 use Rattle.verdict.proofs.Places.{verdict-small}
 use Rattle.run.specs.State.{start}
 use Rattle.run.specs.Bytes.{bytes_of}
@@ -31,12 +30,12 @@ judged-low j h = omega (arith, refusal-few j)
 
 verdict-low : (v : Verdict) → verdict_place v < 65536 → passes v ≡ false → check_bits v < 16777216
 unfolding check_bits pack passes verdict_number verdict_place
-verdict-low Pass h e = clash true refl e
-verdict-low (Circular b) h e = omega arith
-verdict-low (Unclosed w) h e = omega arith
-verdict-low (Unused b) h e = omega arith
-verdict-low (Repeated w) h e = omega arith
-verdict-low (Stranding w b) h e = omega arith
+verdict-low (Ok u) h e = clash true refl e
+verdict-low (Err (Circular b)) h e = omega arith
+verdict-low (Err (Unclosed w)) h e = omega arith
+verdict-low (Err (Unused b)) h e = omega arith
+verdict-low (Err (Repeated w)) h e = omega arith
+verdict-low (Err (Stranding w b)) h e = omega arith
 
 pub refused-low : (s : List ℕ) → sheet_passes s ≡ false → check_call s < 16777216
 unfolding sheet_passes check_within

@@ -1,6 +1,6 @@
 -- What a sheet that passes and a campaign that is in order are, as facts; and that all else is answered with a refusal.
 -- Assumes nothing.
-use mathlib.Core.Path.{◌≡◌, refl}
+use mathlib.Core.Path.{◌≡◌}
 use mathlib.Core.Logic.{inl, inr}
 use mathlib.Core.Bool.{true, false}
 use mathlib.Core.List.{List}
@@ -15,15 +15,14 @@ use Rattle.plan.specs.Judging.{is_fine}
 use Rattle.sheet.specs.Sheet.{sheet_of}
 use Rattle.sheet.proofs.Accepted.{sheet-valid}
 use Rattle.verdict.specs.Check.{check, verdict_number}
-use Rattle.verdict.specs.declared.Verdict.{Verdict}
-use Rattle.verdict.specs.declared.Verdict.TheVariants.{Pass, Circular, Unclosed, Unused, Repeated, Stranding}
 use Rattle.verdict.proofs.Facts.{Passes}
 use Rattle.run.specs.Bytes.{run_of, sound_bytes}
 use Rattle.run.proofs.Facts.{Sound}
 use Rattle.run.proofs.SoundTest.{sound-e}
-use Rattle.guarantee.specs.Answers.{pack, check_bits, unsound}
+use Rattle.guarantee.specs.Answers.{pack, unsound}
 use Rattle.guarantee.proofs.Plans.{plan-passes}
-use Rattle.calls.specs.Calls.{network_within, network_in, passes, sheet_passes, check_within, check_call, in_order, refused_with}
+use Rattle.calls.specs.Calls.{network_within, network_in, passes, sheet_passes, check_call, in_order, refused_with}
+use Rattle.calls.proofs.Exits.{accepted as accepted-call}
 use Rattle.calls.proofs.FirstAnswer.{refused-low}
 
 -- ---- a sheet that passes
@@ -44,16 +43,7 @@ module _ (s : List ℕ) (e : sheet_passes s ≡ true) where
 
   -- check accepts it
   pub accepted : check_call s ≡ pack 6 0 0
-  unfolding check_within check_bits verdict_number
-  accepted = rw fine (go (check (network_in s)) checked)
-    where
-      go : (v : Verdict) → verdict_number v ≡ 0 → check_bits v ≡ pack 6 0 0
-      go Pass h = refl
-      go (Circular b) h = absurd (omega arith)
-      go (Unclosed w) h = absurd (omega arith)
-      go (Unused b) h = absurd (omega arith)
-      go (Repeated w) h = absurd (omega arith)
-      go (Stranding w b) h = absurd (omega arith)
+  accepted = accepted-call s e
 
 -- ---- a campaign in order
 

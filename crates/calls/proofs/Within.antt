@@ -11,21 +11,20 @@ use Rattle.bounded.proofs.Bools.{which}
 use Rattle.plan.specs.Limits.{ours}
 use Rattle.plan.specs.Judging.{is_fine, judged_refusal, judged_place}
 use Rattle.plan.specs.declared.Limits.{Limits}
-use Rattle.plan.specs.declared.Judged.TheVariants.{Oversize}
+use Rattle.plan.specs.declared.Fault.TheVariants.{Oversize}
 use Rattle.lines.specs.Form.{head_bytes}
 use Rattle.lines.specs.Head.{booking_count_in, way_count_in}
-use Rattle.sheet.specs.Sheet.{refused_of, sheet_within, sheet_of, oversize}
+use Rattle.sheet.specs.Sheet.{Sheet, refused_of, sheet_within, sheet_of, oversize}
 use Rattle.sheet.specs.Text.{longest_within}
-use Rattle.sheet.specs.declared.Sheet.{Sheet}
 use Rattle.sheet.proofs.Places.{sheet-small}
 use Rattle.sheet.proofs.Within.{sheet-within, ours-few as few}
 use Rattle.sheet.proofs.Accepted.{sheet-counted, sheet-bookings, sheet-way-count}
 use Rattle.sheet.proofs.ReadSheet.{sheet-bound}
 use Rattle.sheet.proofs.Front.{sheet-front}
 use Rattle.network.specs.FromPlan.{network_of}
-use Rattle.verdict.specs.declared.Verdict.{Verdict}
-use Rattle.verdict.specs.declared.Verdict.TheVariants.{Pass, Circular, Unclosed, Unused, Repeated, Stranding}
-use Rattle.verdict.specs.Check.{check, verdict_number, verdict_place}
+use Rattle.std.specs.Prelude.{Ok, Err}
+use Rattle.verdict.specs.declared.Fault.TheVariants.{Circular, Unclosed, Unused, Repeated, Stranding}
+use Rattle.verdict.specs.Check.{Verdict, check, verdict_number, verdict_place}
 use Rattle.verdict.proofs.Places.{verdict-small}
 use Rattle.guarantee.specs.Answers.{pack, refusal_of, check_bits}
 use Rattle.guarantee.proofs.Moved.{refusal-pack}
@@ -42,7 +41,7 @@ pub check-within : (most : Limits) (s : List ℕ) → check_within most s ≡ co
 unfolding check_within network_within refused_of judged_bits
 check-within most s = ap answer_to (sheet-within most s) ∙ go (oversize most s)
   where
-    go : (o : Bool) → answer_to (cond o (refused_of (Oversize 1)) (sheet_of s)) ≡ cond o (pack 0 16 1) (answer_to (sheet_of s))
+    go : (o : Bool) → answer_to (cond o (refused_of (Err (Oversize 1))) (sheet_of s)) ≡ cond o (pack 0 16 1) (answer_to (sheet_of s))
     go true = refl
     go false = refl
 
@@ -68,12 +67,12 @@ check-front most s = ap answer_to (sheet-front most s)
 -- the refusal that a verdict is answered with, and it is at most 8
 verdict-refusal : (v : Verdict) → verdict_place v < 65536 → (refusal_of (check_bits v) ≡ verdict_number v) × (verdict_number v ≤ 8)
 unfolding check_bits verdict_number verdict_place
-verdict-refusal Pass h = (refusal-pack 6 0 0 (omega arith) (omega arith), omega arith)
-verdict-refusal (Circular b) h = (refusal-pack 0 4 _ (omega arith) h, omega arith)
-verdict-refusal (Unclosed w) h = (refusal-pack 0 5 _ (omega arith) h, omega arith)
-verdict-refusal (Unused b) h = (refusal-pack 0 6 _ (omega arith) h, omega arith)
-verdict-refusal (Repeated w) h = (refusal-pack 0 7 _ (omega arith) h, omega arith)
-verdict-refusal (Stranding w b) h = (refusal-pack 0 8 _ (omega arith) h, omega arith)
+verdict-refusal (Ok u) h = (refusal-pack 6 0 0 (omega arith) (omega arith), omega arith)
+verdict-refusal (Err (Circular b)) h = (refusal-pack 0 4 _ (omega arith) h, omega arith)
+verdict-refusal (Err (Unclosed w)) h = (refusal-pack 0 5 _ (omega arith) h, omega arith)
+verdict-refusal (Err (Unused b)) h = (refusal-pack 0 6 _ (omega arith) h, omega arith)
+verdict-refusal (Err (Repeated w)) h = (refusal-pack 0 7 _ (omega arith) h, omega arith)
+verdict-refusal (Err (Stranding w b)) h = (refusal-pack 0 8 _ (omega arith) h, omega arith)
 
 module _ (s : List ℕ) where
   -- our refusals: 4 to 8 where the sheet reads, else 1 to 3

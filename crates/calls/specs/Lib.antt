@@ -1,2 +1,3 @@
 -- The definitions of crate `calls`.
 pub mod Calls
+pub mod Refusals

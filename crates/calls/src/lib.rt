@@ -1,52 +1,72 @@
-// What the calls for C do: check, start, next order and reply on lent bytes, each answered in 32 bits. Crate campaign exports them, crate partner the check with smaller limits.
+// What the calls for C do: check, start, next order and reply on lent bytes, each answered in 32 bits. Crate campaign has them under their names
+// for C and crate campaign_c exports them; crate partner has the check with smaller limits.
 #![tactic(auto)]
 
-ghost use Rattle.std.specs.Prelude.{◌≡◌, true, ◌≤◌, ◌<◌};
+ghost use Rattle.std.specs.Prelude.{◌≡◌, ◌≤◌, ◌<◌, IfErr};
 ghost use Rattle.plan.specs.Limits.{ours};
-ghost use Rattle.plan.specs.Judging.{judged_place};
-ghost use Rattle.lines.specs.Links.{no_links};
+ghost use Rattle.plan.specs.Links.{empty_links};
 ghost use Rattle.sheet.specs.Outlined.{links_read};
-ghost use Rattle.verdict.specs.Check.{verdict_place};
 ghost use Rattle.run.specs.State.{standing};
-ghost use Rattle.guarantee.specs.Answers.{pack, order_bits, place9, reply_bits, check_bits};
+ghost use Rattle.run.specs.Replies.{kept_of};
+ghost use Rattle.guarantee.specs.Answers.{pack, order_bits, place9};
 ghost use Rattle.guarantee.specs.Machine.{next_order, replied, reply_to};
-ghost use Rattle.calls.specs.Calls.{no_network, passes, judged_bits, planned_within, planned_of, checked_within, checked_of, order_kind, order_booking, order_way, order_place, check_call, start_call, start_leaves, asked_call, asked_leaves, turned_away, taken_up};
+ghost use Rattle.calls.specs.Calls.{network_within, network_in, sheet_passes, passes_within, check_within, order_kind, order_booking, order_way, order_place, check_call, start_call, start_leaves, asked_call, asked_leaves};
+ghost use Rattle.calls.specs.declared.Refusal.TheVariants.{Sheet, Plan};
+ghost use Rattle.calls.specs.Refusals.{refusal_bits, refusal_place, own_bits, answer_bits, Answers, Judges, PlanRead, Plans, Takes};
 
-use network::Network;
-use plan::{Judged, Limits, Outline};
-use run::{Order, Replied, Run};
+use network::{Chart, Network};
+use plan::{Limits, Links, Outline};
+use run::{Order, Run};
 use standing::Standing;
-use verdict::Verdict;
 
-// What is worked out of a sheet before anything else: whether it passes, what check answers, and what the rules look at.
-#[derive(Clone, Copy)]
-pub struct Checked {
-    pub passes: bool,
-    pub bits: u32,
-    pub network: Network,
+// Why a call is refused: refusals 1 to 3 and 16 of a sheet, 4 to 8 of its plan, 11, 10, and 9 of a reply about this booking. In this order a
+// match that treats some alike, as `bits` and `own_bits` do, has three outcomes, and no table of jumps is made of it.
+#[derive(Clone, Copy, PartialEq, Eq, Debug)]
+pub enum Refusal {
+    Sheet(plan::Fault),
+    Plan(verdict::Fault),
+    State,
+    Room,
+    Reply(u32),
 }
 
-// The same, and its plan but for the links.
+impl From<plan::Fault> for Refusal {
+    ghost from_gives = { λ fault refusal. refusal ≡ Sheet fault };
+
+    fn from(fault: plan::Fault) -> Refusal {
+        Refusal::Sheet(fault)
+    }
+}
+
+impl From<verdict::Fault> for Refusal {
+    ghost from_gives = { λ fault refusal. refusal ≡ Plan fault };
+
+    fn from(fault: verdict::Fault) -> Refusal {
+        Refusal::Plan(fault)
+    }
+}
+
+// A sheet that reads: its plan but for the links, what the rules look at, and what the check says of it.
+// No Result around these: a join takes the outline of a plan that is refused with 8.
 #[derive(Clone, Copy)]
 pub struct Planned {
-    pub passes: bool,
-    pub bits: u32,
-    pub network: Network,
     pub outline: Outline,
+    pub chart: Chart,
+    pub verdict: Result<(), verdict::Fault>,
 }
 
-// A campaign taken up for a step: whether its sheet passes and its state is sound, what is answered if not, and what the rules look at.
+// A campaign taken up for a step: its sheet passes and its state is sound.
 #[derive(Clone, Copy)]
 pub struct Campaign {
-    pub sound: bool,
-    pub bits: u32,
-    pub network: Network,
+    pub chart: Chart,
     pub run: Run,
     pub standing: Standing,
 }
 
 // ---- answers as 32 bits
 
+// The numbers of a kind and of a refusal are C's, which are given in its header, so they are numbers here too.
+#[tactic(auto, unfolding(guarantee::specs::Answers::pack))]
 pub fn pack(kind: u32, refusal: u32, place: usize) -> u32
     requires { (kind ≤ 6) × (refusal ≤ 255) × (place < 65536) }
     ensures { result ≡ pack kind refusal place }
@@ -54,43 +74,8 @@ pub fn pack(kind: u32, refusal: u32, place: usize) -> u32
     kind * 16777216 + refusal * 65536 + place as u32
 }
 
-// Refusals 1 to 3, with their line.
-fn judged_bits(j: Judged) -> u32
-    requires { judged_place j < 65536 }
-    ensures { result ≡ judged_bits j }
-{
-    pack(0, plan::judged_refusal(j), plan::judged_place(j))
-}
-
-// Refusals 4 to 8, with their place, or accepted.
-fn check_bits(v: Verdict) -> u32
-    requires { verdict_place v < 65536 }
-    ensures { result ≡ check_bits v }
-{
-    match v {
-        Verdict::Pass => pack(6, 0, 0),
-        Verdict::Circular(b) => pack(0, 4, b + 1),
-        Verdict::Unclosed(w) => pack(0, 5, w),
-        Verdict::Unused(b) => pack(0, 6, b + 1),
-        Verdict::Repeated(w) => pack(0, 7, w),
-        Verdict::Stranding(w, b) => pack(0, 8, w * 256 + b + 1),
-    }
-}
-
-fn is_pass(v: Verdict) -> bool
-    ensures { result ≡ passes v }
-{
-    match v {
-        Verdict::Pass => true,
-        Verdict::Circular(_) => false,
-        Verdict::Unclosed(_) => false,
-        Verdict::Unused(_) => false,
-        Verdict::Repeated(_) => false,
-        Verdict::Stranding(_, _) => false,
-    }
-}
-
 // What next order answers, in three parts: one match over all would become a table of jumps, and the gateway has no room for tables.
+#[tactic(auto, unfolding(crate::specs::Calls::order_kind))]
 fn order_kind(o: Order) -> u32
     ensures { result ≡ order_kind o }
 {
@@ -104,6 +89,7 @@ fn order_kind(o: Order) -> u32
 }
 
 // The number of the booking that an order is for, or 0.
+#[tactic(auto, unfolding(crate::specs::Calls::order_booking, crate::specs::Calls::order_way, crate::specs::Calls::order_place))]
 fn order_booking(o: Order) -> usize
     requires { order_place o < 65536 }
     ensures { result ≡ order_booking o }
@@ -118,6 +104,7 @@ fn order_booking(o: Order) -> usize
 }
 
 // The way by which the campaign is flown, or 0.
+#[tactic(auto, unfolding(crate::specs::Calls::order_way))]
 fn order_way(o: Order) -> usize
     ensures { result ≡ order_way o }
 {
@@ -137,180 +124,174 @@ fn order_bits(o: Order) -> u32
     pack(order_kind(o), 0, order_booking(o) + order_way(o))
 }
 
-// The place of refusal 9.
+// The place of refusal 9, 0 for a number that no booking can have: C's answer has no other way to say so.
+#[tactic(auto, unfolding(guarantee::specs::Answers::place9))]
 pub fn place_9(b: u32) -> usize
     ensures { result ≡ place9 b }
 {
     if b <= 64 { b as usize } else { 0 }
 }
 
-fn reply_bits(b: u32, taken: bool) -> u32
-    requires { taken ≡ true → b < 65536 }
-    ensures { result ≡ reply_bits b taken }
-{
-    if taken {
-        return pack(6, 0, b as usize);
+impl Refusal {
+    // The answer to a call that is refused with 9, 10 or 11. `bits` answers the refusals of a sheet and of its plan; here they would be an 11 too.
+    #[inline(never)]
+    #[tactic(auto, unfolding(crate::specs::Refusals::own_bits))]
+    fn own_bits(self) -> u32
+        ensures { result ≡ own_bits self }
+    {
+        match self {
+            Refusal::Reply(booking) => pack(0, 9, place_9(booking)),
+            Refusal::Room => pack(0, 10, 0),
+            _ => pack(0, 11, 0),
+        }
     }
-    pack(0, 9, place_9(b))
+
+    // The answer to a call that is refused so. A method and no `From`, which could not ask that the place fits. Refusals 9 to 11 are answered in a
+    // function of their own: a match over all would become a table of jumps, and the gateway has no room for tables.
+    pub fn bits(self) -> u32
+        requires { refusal_place self < 65536 }
+        ensures { result ≡ refusal_bits self }
+    {
+        match self {
+            Refusal::Sheet(fault) => pack(0, u32::from(fault.refusal()), fault.line()),
+            Refusal::Plan(fault) => pack(0, u32::from(fault.refusal()), fault.place()),
+            Refusal::Reply(_) | Refusal::Room | Refusal::State => self.own_bits(),
+        }
+    }
+}
+
+// What a call answers that gives this, or is refused.
+pub fn bits_of(answer: Result<u32, Refusal>) -> u32
+    requires { IfErr answer (λ refusal. refusal_place refusal < 65536) }
+    ensures { result ≡ answer_bits answer }
+{
+    match answer {
+        Ok(bits) => bits,
+        Err(refusal) => refusal.bits(),
+    }
 }
 
 // ---- the sheet
 
-fn no_network() -> Network
-    ensures { result ≡ no_network }
-{
-    Network {
-        n: 0,
-        a: 0,
-        way: [0u64; 16],
-        before: [0u64; 64],
-        firm: 0,
-        exposed: 0,
-        desk: [0u64; 8],
-        limit: 0,
-    }
-}
-
-// Reads a sheet for a caller with such limits and checks its plan; the links go into two lent arrays, which come empty.
-fn judge_plan_within(
+// Reads a sheet for a caller with such limits and checks its plan; the links go into lent ones, which come empty.
+pub fn judge_plan_within(
     sheet: &[u8],
     most: Limits,
-    from: &mut [u8; 512],
-    to: &mut [u8; 512],
-) -> Planned
-    requires { (from.old ≡ no_links) × (to.old ≡ no_links) }
-    ensures told { result ≡ planned_within most sheet.now }
-    ensures left { (from.new ≡ (links_read most sheet.now).from) × (to.new ≡ (links_read most sheet.now).to) }
+    links: &mut Links,
+) -> Result<Planned, plan::Fault>
+    requires { links.old ≡ empty_links }
+    ensures told { PlanRead most sheet.now result }
+    ensures left { (links.new.from ≡ (links_read most sheet.now).from) × (links.new.to ≡ (links_read most sheet.now).to) }
 {
-    let read = sheet::read_outline(sheet, most, from, to);
-    let judged = read.judged;
-    let outline = read.outline;
-    if !plan::is_fine(judged) {
-        let bits = judged_bits(judged);
-        let network = no_network();
-        return Planned {
-            passes: false,
-            bits,
-            network,
-            outline,
-        };
-    }
-    let network = network::network_of(outline, from, to);
-    let v = verdict::check(network);
-    let bits = check_bits(v);
-    let passes = is_pass(v);
-    Planned {
-        passes,
-        bits,
-        network,
+    let outline = sheet::read_outline(sheet, most, links)?;
+    let chart = Chart {
+        network: network::network_of(&outline, links),
+    };
+    let verdict = verdict::check(&chart);
+    Ok(Planned {
         outline,
-    }
+        chart,
+        verdict,
+    })
 }
 
 // The same for us.
-pub fn judge_plan(sheet: &[u8], from: &mut [u8; 512], to: &mut [u8; 512]) -> Planned
-    requires { (from.old ≡ no_links) × (to.old ≡ no_links) }
-    ensures told { result ≡ planned_of sheet.now }
-    ensures left { (from.new ≡ (links_read ours sheet.now).from) × (to.new ≡ (links_read ours sheet.now).to) }
+pub fn judge_plan(sheet: &[u8], links: &mut Links) -> Result<Planned, Refusal>
+    requires { links.old ≡ empty_links }
+    ensures told { Plans ours sheet.now result }
+    ensures left { (links.new.from ≡ (links_read ours sheet.now).from) × (links.new.to ≡ (links_read ours sheet.now).to) }
 {
-    judge_plan_within(sheet, plan::ours(), from, to)
+    let planned = judge_plan_within(sheet, plan::ours(), links)?;
+    Ok(planned)
 }
 
 // Reads a sheet for a caller with such limits and checks its plan, whose links no one needs any more.
-pub fn judge_within(sheet: &[u8], most: Limits) -> Checked
-    ensures { result ≡ checked_within most sheet.now }
+pub fn judge_within(sheet: &[u8], most: Limits) -> Result<Chart, Refusal>
+    ensures { Judges (passes_within most sheet.now) (network_within most sheet.now) (check_within most sheet.now) result }
 {
-    let mut from = [0u8; 512];
-    let mut to = [0u8; 512];
-    let planned = judge_plan_within(sheet, most, &mut from, &mut to);
-    Checked {
-        passes: planned.passes,
-        bits: planned.bits,
-        network: planned.network,
-    }
+    let mut links = Links::none();
+    let planned = judge_plan_within(sheet, most, &mut links)?;
+    planned.verdict?;
+    Ok(planned.chart)
 }
 
 // Reads a sheet of ours and checks its plan.
-pub fn judge_sheet(sheet: &[u8]) -> Checked
-    ensures { result ≡ checked_of sheet.now }
+pub fn judge_sheet(sheet: &[u8]) -> Result<Chart, Refusal>
+    ensures { Judges (sheet_passes sheet.now) (network_in sheet.now) (check_call sheet.now) result }
 {
     judge_within(sheet, plan::ours())
 }
 
 // ---- sheets
 
+// Judges a sheet for a caller with such limits: accepted, or the first of refusals 1 to 8 and 16 with its place.
+pub fn check_within(sheet: &[u8], most: Limits) -> u32
+    ensures { result ≡ check_within most sheet.now }
+{
+    bits_of(judge_within(sheet, most).and(Ok(pack(6, 0, 0))))
+}
+
 // Judges a sheet: accepted, or the first of refusals 1 to 8 with its place.
 pub fn check(sheet: &[u8]) -> u32
     ensures { result ≡ check_call sheet.now }
 {
-    let c = judge_sheet(sheet);
-    c.bits
+    check_within(sheet, plan::ours())
 }
 
 // ---- the run
+
+// What start gives for a sheet that passes and 65 bytes.
+fn begin(sheet: &[u8], state: &mut [u8]) -> Result<u32, Refusal>
+    ensures answer { Answers (start_call sheet.now state.old) result }
+    ensures left { state.new ≡ start_leaves sheet.now state.old }
+{
+    judge_sheet(sheet)?;
+    if state.len() != 65 {
+        return Err(Refusal::State);
+    }
+    run::store(&Run::start(), state);
+    Ok(pack(6, 0, 0))
+}
 
 // Begins a campaign: writes the first state over the 65 lent bytes.
 pub fn start(sheet: &[u8], state: &mut [u8]) -> u32
     ensures answer { result ≡ start_call sheet.now state.old }
     ensures left { state.new ≡ start_leaves sheet.now state.old }
 {
-    let c = judge_sheet(sheet);
-    if !c.passes {
-        return c.bits;
-    }
-    if state.len() != 65 {
-        return pack(0, 11, 0);
-    }
-    run::store(Run::start(), state);
-    pack(6, 0, 0)
-}
-
-// A campaign that is not taken up, with the answer that says why.
-fn turned_away(bits: u32) -> Campaign
-    ensures { result ≡ turned_away bits }
-{
-    let network = no_network();
-    let run = Run::start();
-    let standing = Standing {
-        free: 0,
-        requested: 0,
-        held: 0,
-        lost: 0,
-        returning: 0,
-    };
-    Campaign {
-        sound: false,
-        bits,
-        network,
-        run,
-        standing,
-    }
+    bits_of(begin(sheet, state))
 }
 
 // Takes a campaign up: its sheet is judged, then its state, which is looked at once.
-pub fn take_up(sheet: &[u8], state: &[u8]) -> Campaign
-    ensures { result ≡ taken_up sheet.now state.now }
+pub fn take_up(sheet: &[u8], state: &[u8]) -> Result<Campaign, Refusal>
+    ensures { Takes sheet.now state.now result }
 {
-    let c = judge_sheet(sheet);
-    if !c.passes {
-        return turned_away(c.bits);
-    }
+    let chart = judge_sheet(sheet)?;
     if state.len() != 65 {
-        return turned_away(pack(0, 11, 0));
+        return Err(Refusal::State);
     }
-    let network = c.network;
     let run = run::load(state);
-    let standing = run.standing(network.n);
-    if !soundness::is_sound(network, run, standing) {
-        return turned_away(pack(0, 11, 0));
+    let standing = run.standing(chart.network.n);
+    if !soundness::is_sound(&chart, &run, standing) {
+        return Err(Refusal::State);
     }
-    Campaign {
-        sound: true,
-        bits: 0,
-        network,
+    Ok(Campaign {
+        chart,
         run,
         standing,
-    }
+    })
+}
+
+// What next order gives for a campaign that can be taken up.
+fn ask(sheet: &[u8], state: &mut [u8]) -> Result<u32, Refusal>
+    ensures answer { Answers (asked_call sheet.now state.old next_order) result }
+    ensures left { state.new ≡ asked_leaves sheet.now state.old next_order }
+{
+    let campaign = take_up(sheet, state)?;
+    let ordered = campaign
+        .run
+        .next_order(&campaign.chart.network, campaign.standing);
+    run::store(&ordered.run, state);
+    Ok(order_bits(ordered.order))
 }
 
 // Gives the next order to send, or a wait or the end, and the state after it.
@@ -318,31 +299,29 @@ pub fn next_order(sheet: &[u8], state: &mut [u8]) -> u32
     ensures answer { result ≡ asked_call sheet.now state.old next_order }
     ensures left { state.new ≡ asked_leaves sheet.now state.old next_order }
 {
-    let c = take_up(sheet, state);
-    if !c.sound {
-        return c.bits;
-    }
-    let r = c.run;
-    let t = r.next_order(c.network, c.standing);
-    let order = t.order;
-    let after = t.run;
-    run::store(after, state);
-    order_bits(order)
+    bits_of(ask(sheet, state))
 }
 
-// A reply by the booking's number: there is no booking 0.
-pub fn reply_to(r: Run, g: Network, s: Standing, letter: u8, booking: u32) -> Replied
-    requires { (g.n ≤ 64) × (g.a ≤ 16) × (r.way ≤ 16) × (s ≡ standing g r) }
-    ensures { result ≡ reply_to g r letter booking }
+// A reply by the booking's number: there is no booking 0. None is a reply that does not fit.
+pub fn reply_to(r: Run, chart: &Chart, s: Standing, letter: u8, booking: u32) -> Option<Run>
+    requires { (r.way ≤ 16) × (s ≡ standing chart.now.network r) }
+    ensures { result ≡ kept_of (reply_to chart.now.network r letter booking) }
 {
-    if booking == 0 {
-        return Replied {
-            taken: false,
-            run: r,
-        };
-    }
-    let b = booking as usize - 1;
-    r.reply(g, s, letter, b)
+    let b = booking.checked_sub(1)?;
+    r.reply(chart, s, letter, b as usize)
+}
+
+// What reply gives where it fits.
+fn take(sheet: &[u8], state: &mut [u8], letter: u8, booking: u32) -> Result<u32, Refusal>
+    ensures answer { Answers (asked_call sheet.now state.old (replied letter booking)) result }
+    ensures left { state.new ≡ asked_leaves sheet.now state.old (replied letter booking) }
+{
+    let c = take_up(sheet, state)?;
+    let after = reply_to(c.run, &c.chart, c.standing, letter, booking).ok_or(Refusal::Reply(
+        booking,
+    ))?;
+    run::store(&after, state);
+    Ok(pack(6, 0, booking as usize))
 }
 
 // Takes a desk's reply: Y or N to a request, G or K to a return.
@@ -350,13 +329,5 @@ pub fn reply(sheet: &[u8], state: &mut [u8], letter: u8, booking: u32) -> u32
     ensures answer { result ≡ asked_call sheet.now state.old (replied letter booking) }
     ensures left { state.new ≡ asked_leaves sheet.now state.old (replied letter booking) }
 {
-    let c = take_up(sheet, state);
-    if !c.sound {
-        return c.bits;
-    }
-    let t = reply_to(c.run, c.network, c.standing, letter, booking);
-    let taken = t.taken;
-    let moved = t.run;
-    run::store(moved, state);
-    reply_bits(booking, taken)
+    bits_of(take(sheet, state, letter, booking))
 }

@@ -1,4 +1,5 @@
-// The functions that the archive for C exports. Each calls the function of its name in crate campaign and states its clauses again.
+// The functions that the archive for C exports. Each calls the function of its name in crate campaign and states its clauses again:
+// a crate is a library or an archive and never both, so the crates above call `campaign`, and C calls these.
 #![tactic(auto)]
 
 ghost use Rattle.std.specs.Prelude.{◌≡◌, length};

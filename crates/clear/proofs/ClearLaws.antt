@@ -9,9 +9,9 @@ use native.Mathlib.Omega.{arith}
 use borrow.Author.Tests.{not-true, eq-eqb}
 use Rattle.bounded.proofs.Bools.{which, clash, off, split?, not-i, ◌&◌}
 use Rattle.plan.specs.Limits.{within, ours}
-use Rattle.plan.specs.Judging.{is_fine, judged_refusal}
-use Rattle.plan.specs.declared.Judged.{Judged}
-use Rattle.plan.specs.declared.Judged.TheVariants.{Fine, Form, Count, Sequence, Oversize}
+use Rattle.std.specs.Prelude.{Ok, Err}
+use Rattle.plan.specs.Judging.{Judged, is_fine, judged_refusal}
+use Rattle.plan.specs.declared.Fault.TheVariants.{Form, Count, Sequence, Oversize}
 use Rattle.plan.proofs.LimitLaws.{within-lo, within-hi, within-i}
 use Rattle.plan.proofs.Valid.{Valid}
 use Rattle.sheet.specs.Sheet.{sheet_of}
@@ -25,7 +25,7 @@ use Rattle.calls.specs.Calls.{network_in, passes, sheet_passes, check_call}
 use Rattle.calls.proofs.FirstAnswer.{refused-low}
 use Rattle.calls.proofs.InOrder.{accepted}
 use Rattle.calls.proofs.Within.{read-refusal, unread-refusal}
-use Rattle.clear.specs.Clear.{clear_bits, clear}
+use Rattle.clear.specs.Clear.{clear_bits, clear_verdict, clear}
 
 -- ---- the answer
 
@@ -49,11 +49,11 @@ module _ (k x : ℕ) where
 
 -- what does not read is refused with 1 at least
 unread-some : (j : Judged) → is_fine j ≡ false → 1 ≤ judged_refusal j
-unread-some Fine e = clash true refl e
-unread-some (Form l) e = omega arith
-unread-some (Count l) e = omega arith
-unread-some (Sequence l) e = omega arith
-unread-some (Oversize l) e = omega arith
+unread-some (Ok tt) e = clash true refl e
+unread-some (Err (Form l)) e = omega arith
+unread-some (Err (Count l)) e = omega arith
+unread-some (Err (Sequence l)) e = omega arith
+unread-some (Err (Oversize l)) e = omega arith
 
 -- ---- the sheet
 
@@ -66,6 +66,14 @@ module _ (k : ℕ) (s : List ℕ) where
         let lo = unread-some (sheet_of s).judged f in
         elim (clear-past k (check_call s) e) [ inl z ↦ omega arith | inr z ↦ omega (arith, ours-few s) ])
   ]
+
+  -- a sheet that reads is clear as its verdict is, and one that does not read is not
+  pub clear-read : is_fine (sheet_of s).judged ≡ true → clear_verdict k (check (network_in s)) ≡ clear k s
+  unfolding clear clear_bits clear_verdict
+  clear-read f = rw (read-refusal s f).0
+
+  pub unread-unclear : 3 ≤ k → is_fine (sheet_of s).judged ≡ false → clear k s ≡ false
+  unread-unclear h f = off (clear k s) (λ e. clash _ (clear-fine h e) f)
 
   pub clear-valid : 3 ≤ k → clear k s ≡ true → Valid (sheet_of s).plan
   clear-valid h e = sheet-valid ours s (clear-fine h e)

@@ -9,18 +9,23 @@ use mathlib.Core.Bool.{Bool, true, false, not, ◌&&◌, cond}
 use native.Mathlib.Nat.{pow-suc, pow-le-pow_right}
 use native.Mathlib.Numerals.{add-one}
 use native.Mathlib.Omega.{arith}
-use lib.ListN.{length, get_or, take, set, length-append, get_or-append}
-use lib.Seq.{sets, take-suc, take-take, take_all, take_at, get_or-take, get_or_at, ext_get_or}
+use lib.ListN.{length, get_or, take, drop, set, length-append, length-drop, get_or-append}
+use lib.Seq.{sets, length-sets, take-suc, length-take-le, take-take, take_all, take_at, get_or-take, get_or_at, ext_get_or}
 use lib.Dec.{eqb, leb, ltb}
-use borrow.Author.Tests.{eqb-true, eqb-false, eq-eqb, ne_eqb, leb-true, le-leb, ltb-true, lt-ltb, not-true, not-false}
+use borrow.Author.Tests.{eqb-true, eqb-false, eq-eqb, ne_eqb, leb-true, le-leb, ltb-true, lt-ltb, not-false}
 use Rattle.bounded.proofs.Bools.{clash, and_l, and_r, and-no-r, and-true, last?, split?, ◌&◌}
 use Rattle.bounded.proofs.First.{Least, first-least}
 use Rattle.bounded.specs.Bounded.{first}
 use Rattle.decimal.specs.Decimal.{begun, column, columns_to, columns, value_of, same_bytes, spaces, unread_of, field_of, field_text}
-use Rattle.decimal.specs.declared.Field.{Field}
-use Rattle.decimal.specs.declared.Field.TheVariants.{Number, Blank, Fault}
+use Rattle.std.specs.Prelude.{Option, Some, None, MatchOption, unwrap_or, Ok, Err, ◌≢◌}
+use Rattle.std.specs.List.{AllWithin, HoldsAt}
+use Rattle.std.specs.Char.{is_ascii_digit}
+use Rattle.bounded.proofs.Loops.{first-at, first-over}
+use Rattle.decimal.specs.declared.NoNumber.{NoNumber}
+use Rattle.decimal.specs.declared.NoNumber.TheVariants.{Blank, Fault}
 use Rattle.decimal.proofs.Bytes.{same_refl, same-eq, same-ne}
-use Rattle.decimal.proofs.Stores.{sets_last}
+use borrow.Rule.Slice.PartMut.{put_mid}
+use Rattle.decimal.proofs.Stores.{sets_last, sets-whole, put-sets, Front, next-part}
 
 -- ---- one column
 
@@ -128,27 +133,22 @@ space-at (suc w) i h = elim (last? h) [
   | inr m ↦ get_or-append (spaces w) (32 ∷ []) 0 i (omega (arith, spaces-length w)) ∙ space-at w i m
 ]
 
+-- a field whose bytes are all spaces
+pub all-spaces : (w : ℕ) (field : List ℕ) → length field ≡ w → ((k : ℕ) → k < w → get_or field k 0 ≡ 32) → field ≡ spaces w
+all-spaces w field n h = ext_get_or 0 field (spaces w) (n ∙ sym (spaces-length w)) (λ k l. let m : k < w = omega arith in h k m ∙ sym (space-at w k m))
+
 -- a byte that is no space makes them no blank
 pub no-blank : (w : ℕ) (s : List ℕ) (i : ℕ) → i < w → (get_or s i 0 ≡ 32 → ⊥) → Fault ≡ unread_of w s
 unfolding unread_of
 no-blank w s i h n = rw (same-ne s (spaces w) (λ e. n (ap (λ (l : List ℕ). get_or l i 0) e ∙ space-at w i h)))
 
 -- nothing but spaces is a blank
-pub all-blank : (s : List ℕ) (i : ℕ) → length s ≤ i → ((k : ℕ) → k < i → get_or s k 0 ≡ 32) → Blank ≡ unread_of (length s) s
+pub all-blank : (s : List ℕ) → ((k : ℕ) → k < length s → get_or s k 0 ≡ 32) → Blank ≡ unread_of (length s) s
 unfolding unread_of
-all-blank s i n h =
-    let e : s ≡ spaces (length s) = ext_get_or 0 s (spaces (length s)) (sym (spaces-length (length s))) (λ k l. h k (omega arith) ∙ sym (space-at (length s) k l)) in
+all-blank s h =
+    let e : s ≡ spaces (length s) = ext_get_or 0 s (spaces (length s)) (sym (spaces-length (length s))) (λ k l. h k l ∙ sym (space-at (length s) k l)) in
     let y : same_bytes s (spaces (length s)) ≡ true = rw (← e) (same_refl s) in
     rw y
-
--- neither a blank nor a fault is a number
-unread-no : (w : ℕ) (s : List ℕ) (x : ℕ) → unread_of w s ≡ Number x → ⊥
-unfolding unread_of
-unread-no w s x = go (same_bytes s (spaces w))
-  where
-    go : (b : Bool) → cond b Blank Fault ≡ Number x → ⊥
-    go true e = let z : ◌≡◌ {A = ℕ} 0 1 = cc in omega arith
-    go false e = let z : ◌≡◌ {A = ℕ} 0 1 = cc in omega arith
 
 -- ---- read and written
 
@@ -157,7 +157,7 @@ unfolding columns
 value_written w x h = value-to true w x h
 
 -- what is written of a number is read as that number
-pub written_read : (w x : ℕ) → x < 10 ^ w → field_of w (columns w x) ≡ Number x
+pub written_read : (w x : ℕ) → x < 10 ^ w → field_of w (columns w x) ≡ Ok x
 unfolding field_of
 written_read w x h = rw (value_written w x h, same_refl (columns w x))
 
@@ -167,19 +167,19 @@ pub record Reads (w : ℕ) (s : List ℕ) (x : ℕ) : Type 0 where
   pub value : x ≡ value_of w s
   pub text : s ≡ columns w x
 
-pub read-written : (w : ℕ) (s : List ℕ) (x : ℕ) → field_of w s ≡ Number x → Reads w s x
+pub read-written : (w : ℕ) (s : List ℕ) (x : ℕ) → field_of w s ≡ Ok x → Reads w s x
 unfolding field_of columns
 read-written w s x = go (same_bytes s (columns w (value_of w s))) (same-eq s (columns w (value_of w s)))
   where
-    go : (b : Bool) → (b ≡ true → s ≡ columns w (value_of w s)) → cond b (Number (value_of w s)) (unread_of w s) ≡ Number x → Reads w s x
+    go : (b : Bool) → (b ≡ true → s ≡ columns w (value_of w s)) → cond b (Ok (value_of w s)) (Err (unread_of w s)) ≡ Ok x → Reads w s x
     go true h e =
         let v : value_of w s ≡ x = cc in
         let t : s ≡ columns w x = rw v at (h refl) in
         record { small = subst (λ (n : ℕ). n < 10 ^ w) (ap (value_of w) (sym t) ∙ v) (value-small true w x); value = sym v; text = t }
-    go false h e = absurd (unread-no w s x e)
+    go false h e = absurd (cc)
 
 -- what is written of a blank is read as a blank, since a number's last column is no space
-pub blank-read : (w : ℕ) → field_of (suc w) (spaces (suc w)) ≡ Blank
+pub blank-read : (w : ℕ) → field_of (suc w) (spaces (suc w)) ≡ Err Blank
 unfolding field_of unread_of columns columns_to
 blank-read w =
     let v : ℕ = value_of (suc w) (spaces (suc w)) in
@@ -189,18 +189,18 @@ blank-read w =
     rw (n, same_refl (spaces (suc w)))
 
 -- a field that is no fault is what is written of it
-pub own-text : (w : ℕ) (s : List ℕ) → (field_of w s ≡ Fault → ⊥) → s ≡ field_text w (field_of w s)
+pub own-text : (w : ℕ) (s : List ℕ) → (field_of w s ≡ Err Fault → ⊥) → s ≡ field_text w (field_of w s)
 unfolding field_of unread_of field_text
 own-text w s = go (same_bytes s (columns w (value_of w s))) (same_bytes s (spaces w)) (same-eq s (columns w (value_of w s))) (same-eq s (spaces w))
   where
-    go : (a b : Bool) → (a ≡ true → s ≡ columns w (value_of w s)) → (b ≡ true → s ≡ spaces w) → (cond a (Number (value_of w s)) (cond b Blank Fault) ≡ Fault → ⊥)
-        → s ≡ field_text w (cond a (Number (value_of w s)) (cond b Blank Fault))
+    go : (a b : Bool) → (a ≡ true → s ≡ columns w (value_of w s)) → (b ≡ true → s ≡ spaces w) → (cond a (Ok (value_of w s)) (Err (cond b Blank Fault)) ≡ Err Fault → ⊥)
+        → s ≡ field_text w (cond a (Ok (value_of w s)) (Err (cond b Blank Fault)))
     go true b p q n = p refl
     go false true p q n = q refl
     go false false p q n = absurd (n refl)
 
 -- the columns of the value are a number
-pub columns-number : (w : ℕ) (s : List ℕ) → s ≡ columns w (value_of w s) → field_of w s ≡ Number (value_of w s)
+pub columns-number : (w : ℕ) (s : List ℕ) → s ≡ columns w (value_of w s) → field_of w s ≡ Ok (value_of w s)
 unfolding field_of
 columns-number w s e =
     let y : same_bytes s (columns w (value_of w s)) ≡ true = rw (← e) (same_refl s) in
@@ -231,7 +231,7 @@ each-column last (suc w) s n e i h =
           (each-column false w s (omega arith) (rw q at f) i m)
     ]
 
-pub fault-length : (w : ℕ) (s : List ℕ) → (length s ≡ w → ⊥) → Fault ≡ field_of w s
+pub fault-length : (w : ℕ) (s : List ℕ) → (length s ≡ w → ⊥) → Err Fault ≡ field_of w s
 unfolding field_of unread_of
 fault-length w s h =
     rw (same-ne s (columns w (value_of w s)) (λ e. h (ap length e ∙ columns-length w (value_of w s))), same-ne s (spaces w) (λ e. h (ap length e ∙ spaces-length w)))
@@ -243,7 +243,7 @@ module _ (w : ℕ) (s : List ℕ) (i x d : ℕ) (n : length s ≡ w) (h : i < w)
   value-turn = rw (add-one, v, g)
 
   -- a byte that is not its column makes the field no number
-  unread-at : (get_or s i 0 ≡ column (eqb (i + 1) w) (x * 10 + d) → ⊥) → unread_of w s ≡ field_of w s
+  unread-at : (get_or s i 0 ≡ column (eqb (i + 1) w) (x * 10 + d) → ⊥) → Err (unread_of w s) ≡ field_of w s
   unfolding field_of columns
   unread-at other =
       rw (same-ne s (columns w (value_of w s)) (λ e.
@@ -281,26 +281,23 @@ module _ (w : ℕ) (s : List ℕ) (i : ℕ) (n : length s ≡ w) (f : i ≡ firs
   found : Least (begun s) (w - 1) i
   found = rw f (first-least (begun s) (w - 1))
 
-  pub begun-high : i ≤ w
-  begun-high = omega (arith, found.high)
-
   front : (value_of i s ≡ 0) × (take i s ≡ columns_to false i 0)
   unfolding begun
   front = blanks s i (omega (arith, found.high)) (λ j l. eqb-true (get_or s j 0) 32 (not-false (eqb (get_or s j 0) 32) (found.before j l)))
 
   -- a zero in front of others
-  pub zero-led : ltb (i + 1) w && eqb (get_or s i 0) 48 ≡ true → Fault ≡ field_of w s
+  pub zero-led : ltb (i + 1) w && eqb (get_or s i 0) 48 ≡ true → Err Fault ≡ field_of w s
   unfolding column
   zero-led t =
       let l : i + 1 < w = ltb-true (i + 1) w (and_l (ltb (i + 1) w) _ t) in
       let z : get_or s i 0 ≡ 48 = eqb-true (get_or s i 0) 48 (and_r (ltb (i + 1) w) _ t) in
-      no-blank w s i (omega arith) (λ e. omega arith)
+      ap (λ (e : NoNumber). Err e) (no-blank w s i (omega arith) (λ e. omega arith))
       ∙ unread-at w s i 0 0 n (omega arith) (sym front.0) (rw z) (λ e. absurd (omega (arith, rw (z, ne_eqb (i + 1) w (λ q. omega arith)) at e)))
 
-  pub begun-read : ltb (i + 1) w && eqb (get_or s i 0) 48 ≡ false → Read-to w s i 0
+  pub begun-read : i ≤ length s → ltb (i + 1) w && eqb (get_or s i 0) 48 ≡ false → Read-to w s i 0
   unfolding begun columns_to
-  begun-read t = record {
-    high = omega (arith, found.high);
+  begun-read k t = record {
+    high = omega arith;
     value = sym front.0;
     text = elim (split? i w) [
       | inl l ↦ front.1 ∙ rw (ne_eqb i w (λ q. omega arith))
@@ -312,22 +309,39 @@ module _ (w : ℕ) (s : List ℕ) (i : ℕ) (n : length s ≡ w) (f : i ≡ firs
     );
   }
 
+-- the first byte that is no space, as a search in front of the last column finds it
+pub begins_at : (s : List ℕ) (n : ℕ) (r : Option ℕ)
+    → MatchOption r (AllWithin (λ x. x ≡ 32) (take n s) 0 (length (take n s)))
+    (λ i. (i < length (take n s)) × HoldsAt (λ x. x ≢ 32) (take n s) i × AllWithin (λ x. x ≡ 32) (take n s) 0 i)
+    → n ≤ length s → (unwrap_or r n ≤ n) × (unwrap_or r n ≡ first (begun s) n)
+unfolding begun
+begins_at s n None p h =
+    (omega arith, first-over (begun s) n n (λ k l. ap not (eq-eqb _ _ (sym (get_or-take n s k 0 l) ∙ p k 0 (omega arith) (omega (arith, length-take-le n s h))))) (omega arith))
+begins_at s n (Some i) p h =
+    let l : i < n = omega (arith, length-take-le n s h) in (
+      omega arith,
+      first-at (begun s) n i
+          (λ k m. ap not (eq-eqb _ _ (sym (get_or-take n s k 0 (omega arith)) ∙ p.2 k 0 (omega arith) m)))
+          l
+          (ap not (ne_eqb _ _ (λ e. p.1 0 (get_or-take n s i 0 l ∙ e)))),
+    )
+
 -- a column more
 module _ (w : ℕ) (s : List ℕ) (i x : ℕ) (n : length s ≡ w) (h : i < w) (r : Read-to w s i x) (b : Bool)
-    (t : b ≡ (leb 48 (get_or s i 0) && leb (get_or s i 0) 57)) where
+    (t : b ≡ is_ascii_digit (get_or s i 0)) where
   goes_on : eqb (i + 1) w ≡ false → i + 1 < w
   goes_on l = elim (split? (i + 1) w) [ inl k ↦ k | inr k ↦ absurd (eqb-false (i + 1) w l (omega arith)) ]
 
-  pub digit-lacks : not b ≡ true → (f : Field) → f ≡ unread_of (length s) s → f ≡ field_of w s
+  pub digit-lacks : b ≡ false → (f : NoNumber) → f ≡ unread_of (length s) s → Err f ≡ field_of w s
   digit-lacks q f e =
-      e ∙ rw n
+      rw (e, n)
       (unread-at w s i x (get_or s i 0 % 16) n h r.value refl
-      (no_digit (eqb (i + 1) w) (get_or s i 0) (x * 10 + get_or s i 0 % 16) (sym t ∙ not-true b q)
+      (no_digit (eqb (i + 1) w) (get_or s i 0) (x * 10 + get_or s i 0 % 16) (sym t ∙ q)
       (λ z l. (r.begins (omega arith) (goes_on l)).0)))
 
-  pub digit-more : not b ≡ false → (d : ℕ) → d ≡ get_or s i 0 % 16 → Read-to w s (i + 1) (x * 10 + d)
+  pub digit-more : b ≡ true → (d : ℕ) → d ≡ get_or s i 0 % 16 → Read-to w s (i + 1) (x * 10 + d)
   digit-more q d g =
-      let y : leb 48 (get_or s i 0) && leb (get_or s i 0) 57 ≡ true = sym t ∙ not-false b q in
+      let y : leb 48 (get_or s i 0) && leb (get_or s i 0) 57 ≡ true = sym t ∙ q in
       record {
         high = omega arith;
         value = value-turn w s i x d n h r.value g;
@@ -343,7 +357,7 @@ module _ (w : ℕ) (s : List ℕ) (i x : ℕ) (n : length s ≡ w) (h : i < w) (
           let hi : get_or s i 0 ≤ 57 = leb-true _ 57 (and_r (leb 48 (get_or s i 0)) _ y) in
           omega arith
 
-pub number_read : (w : ℕ) (s : List ℕ) (i x : ℕ) → length s ≡ w → i ≤ w → w ≤ i → x ≡ value_of i s → take i s ≡ columns_to (eqb i w) i x → Number x ≡ field_of w s
+pub number_read : (w : ℕ) (s : List ℕ) (i x : ℕ) → length s ≡ w → i ≤ w → w ≤ i → x ≡ value_of i s → take i s ≡ columns_to (eqb i w) i x → Ok x ≡ field_of w s
 unfolding field_of columns
 number_read w s i x n h k v t =
     let e : i ≡ w = omega arith in
@@ -367,21 +381,36 @@ room w s x h e = omega (arith, value-bound w s, pow-le-pow_right {n = 10} (omega
 
 -- ---- writing column by column, the last first
 
-pub column-written : (w at i q c : ℕ) (buf whole : List ℕ) → i ≤ w → 0 < i → c ≡ column (eqb i w) q → sets buf at (columns_to (eqb i w) i q) ≡ whole
-    → sets (set buf (at + (i - 1)) c) at (columns_to (eqb (i - 1) w) (i - 1) (q / 10)) ≡ whole
+pub column-written : (w i q c : ℕ) (buf whole : List ℕ) → i ≤ w → 0 < i → c ≡ column (eqb (i - 1 + 1) w) q → sets buf 0 (columns_to (eqb i w) i q) ≡ whole
+    → sets (set buf (i - 1) c) 0 (columns_to (eqb (i - 1) w) (i - 1) (q / 10)) ≡ whole
 unfolding columns_to
-column-written w at zero q c buf whole h p r e = absurd (omega arith)
-column-written w at (suc i) q c buf whole h p r e =
+column-written w zero q c buf whole h p r e = absurd (omega arith)
+column-written w (suc i) q c buf whole h p r e =
     let m : suc i - 1 ≡ i = omega arith in
     let o : eqb i w ≡ false = ne_eqb i w (λ z. omega arith) in
-    let l : at + length (columns_to false i (q / 10)) ≡ at + i = omega (arith, to-length false i (q / 10)) in
-    rw (m, o, r, ← l) (sym (sets_last buf at (columns_to false i (q / 10)) (column (eqb (suc i) w) q)) ∙ e)
+    let l : 0 + length (columns_to false i (q / 10)) ≡ i = omega (arith, to-length false i (q / 10)) in
+    let r' : c ≡ column (eqb (suc i) w) q = r ∙ ap (λ (k : ℕ). column (eqb k w) q) (omega arith) in
+    rw (m, o, r') (ap (λ (k : ℕ). sets (set buf k (column (eqb (suc i) w) q)) 0 (columns_to false i (q / 10))) (sym l) ∙ sym (sets_last buf 0 (columns_to false i (q / 10)) (column (eqb (suc i) w) q)) ∙ e)
 
-pub all-written : (w at i q : ℕ) (buf whole : List ℕ) → i ≤ 0 → sets buf at (columns_to (eqb i w) i q) ≡ whole → buf ≡ whole
+-- all columns are written
+pub all-written : (w i q x : ℕ) (field start : List ℕ) → w ≡ length start → i ≤ 0 → sets field 0 (columns_to (eqb i w) i q) ≡ sets start 0 (columns w x) → field ≡ columns w x
 unfolding columns_to
-all-written w at zero q buf whole h e = e
-all-written w at (suc i) q buf whole h e = absurd (omega arith)
+all-written w zero q x field start n h e = e ∙ sets-whole start (columns w x) (columns-length w x ∙ n)
+all-written w (suc i) q x field start n h e = absurd (omega arith)
 
-pub from_last : (w : ℕ) (at x : ℕ) (buf : List ℕ) → sets buf at (columns_to (eqb w w) w x) ≡ sets buf at (columns w x)
+pub from_last : (w x : ℕ) (buf : List ℕ) → sets buf 0 (columns_to (eqb w w) w x) ≡ sets buf 0 (columns w x)
 unfolding columns
-from_last w at x buf = rw (eq-eqb w w refl)
+from_last w x buf = rw (eq-eqb w w refl)
+
+-- a field more behind a text at the front
+pub next-field : (d x b text : List ℕ) (p w v : ℕ) → Front d text x → p ≡ 0 + length text → p + w ≤ length d → b ≡ columns (length (take w (drop p x))) v → Front d (text ++ columns w v) (put_mid p w x b)
+next-field d x b text p w v f q h e =
+    let l : length x ≡ length d = rw f.is (length-sets d 0 text) in
+    let m : length (take w (drop p x)) ≡ w = length-take-le w (drop p x) (omega (arith, length-drop p x)) in
+    next-part d x b text (columns w v) p w f q h (sym (columns-length w v)) (rw m at e)
+
+-- a field written anywhere
+pub put-field : (d b : List ℕ) (p k w v : ℕ) → k ≡ w → p + w ≤ length d → b ≡ columns (length (take k (drop p d))) v → put_mid p k d b ≡ sets d p (columns w v)
+put-field d b p k w v n h e =
+    let m : length (take k (drop p d)) ≡ k = length-take-le k (drop p d) (omega (arith, length-drop p d)) in
+    put-sets d p k (columns w v) b (omega (arith, columns-length w v)) (n ∙ sym (columns-length w v)) ((rw m at e) ∙ ap (λ (j : ℕ). columns j v) n)

@@ -2,8 +2,9 @@
 -- The width is an argument everywhere: most numbers of the texts have four columns, a place has six.
 -- Assumes nothing.
 use Rattle.std.specs.Prelude.{ℕ, zero, suc, ◌+◌, ◌*◌, ◌/◌, ◌%◌, List, [], ◌∷◌, ◌++◌, Bool, true, false, not, ◌&&◌, cond, get_or, take, drop, eqb}
-use Rattle.decimal.specs.declared.Field.{Field}
-use Rattle.decimal.specs.declared.Field.TheVariants.{Number, Blank, Fault}
+use Rattle.std.specs.Prelude.{Result, Ok, Err}
+use Rattle.decimal.specs.declared.NoNumber.{NoNumber}
+use Rattle.decimal.specs.declared.NoNumber.TheVariants.{Blank, Fault}
 
 -- The byte in one column, where q is the number that ends with this column: its last digit, or a space while q is nothing.
 -- The field's last column shows its digit even so.
@@ -40,19 +41,23 @@ unfoldable pub spaces : ℕ → List ℕ
 spaces zero = []
 spaces (suc w) = spaces w ++ (32 ∷ [])
 
+-- what a field holds: a number, or why it is none
+abbrev pub Field : Type 0
+Field = Result ℕ NoNumber
+
 -- what w columns hold that are no number's: a blank, if they are spaces, and else a fault
-unfoldable pub unread_of : ℕ → List ℕ → Field
+unfoldable pub unread_of : ℕ → List ℕ → NoNumber
 unread_of w s = cond (same_bytes s (spaces w)) Blank Fault
 
 -- what a field of w columns holds: a number, if it is that number's columns, and else a blank or a fault
 unfoldable pub field_of : ℕ → List ℕ → Field
-field_of w s = cond (same_bytes s (columns w (value_of w s))) (Number (value_of w s)) (unread_of w s)
+field_of w s = cond (same_bytes s (columns w (value_of w s))) (Ok (value_of w s)) (Err (unread_of w s))
 
 -- the w columns in which a field is written; a fault has none of its own
 unfoldable pub field_text : ℕ → Field → List ℕ
-field_text w (Number x) = columns w x
-field_text w Blank = spaces w
-field_text w Fault = []
+field_text w (Ok x) = columns w x
+field_text w (Err Blank) = spaces w
+field_text w (Err Fault) = []
 
 -- the field of w columns that starts at a place of a line, and the number that can stand there
 unfoldable pub field_at : ℕ → ℕ → List ℕ → Field

@@ -2,15 +2,14 @@
 // text, and the copying of bytes, that readers and writers of lines need.
 #![tactic(auto)]
 
-ghost use Rattle.std.specs.Prelude.{◌≡◌, [], ◌∷◌, false, ◌&&◌, ◌+◌, ◌-◌, ◌%◌, ◌^◌, ◌≤◌, ◌<◌, eqb, leb, ltb, length, get_or, take, drop};
+ghost use Rattle.std.specs.Prelude.{◌≡◌, false, ◌&&◌, ◌+◌, ◌-◌, ◌%◌, ◌^◌, ◌≤◌, ◌<◌, eqb, leb, ltb, length, get_or, take, drop};
 ghost use Rattle.std.proofs.lemmas.List.Edits.{sets};
 ghost use Rattle.bounded.specs.Bounded.{first};
 ghost use Rattle.decimal.specs.Decimal.{begun, column, columns, same_bytes, spaces, unread_of, field_of, field_at};
 
-// What a number field holds.
-#[derive(Clone, Copy)]
-pub enum Field {
-    Number(usize),
+// What a number field holds where it holds no number.
+#[derive(Clone, Copy, PartialEq, Eq, Debug)]
+pub enum NoNumber {
     Blank,
     Fault,
 }
@@ -31,105 +30,72 @@ pub fn part(s: &[u8], at: usize, w: usize) -> &[u8]
 }
 
 // Whether two slices hold the same bytes.
+// It is `==`, and stays as a public function with its clause.
 pub fn equal(a: &[u8], b: &[u8]) -> bool
     ensures { result ≡ same_bytes a.now b.now }
 {
-    if a.len() != b.len() {
-        return false;
-    }
-    let mut i = 0;
-    while i < a.len() {
-        if a[i] != b[i] {
-            return false;
-        }
-        i += 1;
-    }
-    true
+    a == b
 }
 
-// The value of a digit's byte; a space's is 0.
+// The value of a digit's byte.
 fn digit(b: u8) -> usize
     ensures { result ≡ b % 16 }
 {
     (b % 16) as usize
 }
 
-// Where the number begins among w columns: after the spaces in front, in the last column at the latest.
-fn begin(s: &[u8], w: usize) -> usize
-    requires { w ≤ length s.now }
-    ensures { result ≡ first (begun s.now) (w - 1) }
+// Where the number begins: after the spaces in front, in the last column at the latest.
+fn begin(s: &[u8]) -> usize
+    ensures within { result ≤ length s.now }
+    ensures place { result ≡ first (begun s.now) (length s.now - 1) }
 {
-    let mut i = 0;
-    while i + 1 < w {
-        if s[i] != b' ' {
-            return i;
-        }
-        i += 1;
-    }
-    i
+    let last = s.len().saturating_sub(1);
+    s.iter().take(last).position(|b| *b != b' ').unwrap_or(last)
 }
 
-// Whether a number of w columns that begins at i begins with a zero and goes on.
-fn leads_zero(s: &[u8], w: usize, i: usize) -> bool
-    requires { (w ≤ length s.now) × (i ≤ w) }
-    ensures { result ≡ (ltb (i + 1) w && eqb (get_or s.now i 0) 48) }
+// Whether a number that begins at i begins with a zero and goes on.
+fn leads_zero(s: &[u8], i: usize) -> bool
+    requires { i ≤ length s.now }
+    ensures { result ≡ (ltb (i + 1) (length s.now) && eqb (get_or s.now i 0) 48) }
 {
-    if i + 1 < w {
-        return s[i] == b'0';
-    }
-    false
-}
-
-// Whether b is a digit.
-fn is_digit(b: u8) -> bool
-    ensures { result ≡ (leb 48 b && leb b 57) }
-{
-    if b < b'0' {
-        return false;
-    }
-    b <= b'9'
+    i + 1 < s.len() && s[i] == b'0'
 }
 
 // What columns hold that are no number's.
-fn unread(s: &[u8]) -> Field
+fn unread(s: &[u8]) -> NoNumber
     ensures { result ≡ unread_of (length s.now) s.now }
 {
-    let mut i = 0;
-    while i < s.len() {
-        if s[i] != b' ' {
-            return Field::Fault;
-        }
-        i += 1;
+    if s.iter().all(|b| *b == b' ') {
+        NoNumber::Blank
+    } else {
+        NoNumber::Fault
     }
-    Field::Blank
 }
 
 // Reads a field of w columns: spaces, then digits, and no zero in front of others; or spaces alone.
-pub fn read_field(s: &[u8], w: usize) -> Field
+pub fn read_field(s: &[u8], w: usize) -> Result<usize, NoNumber>
     requires { w ≤ 12 }
     ensures { result ≡ field_of w s.now }
 {
     if s.len() != w {
-        return Field::Fault;
+        return Err(NoNumber::Fault);
     }
-    let mut i = begin(s, w);
-    if leads_zero(s, w, i) {
-        return Field::Fault;
+    let i = begin(s);
+    if leads_zero(s, i) {
+        return Err(NoNumber::Fault);
     }
     let mut x = 0;
-    while i < w {
-        let b = s[i];
-        if !is_digit(b) {
-            return unread(s);
+    for &b in &s[i..] {
+        if !b.is_ascii_digit() {
+            return Err(unread(s));
         }
         x = x * 10 + digit(b);
-        i += 1;
     }
-    Field::Number(x)
+    Ok(x)
 }
 
 // Reads the field of w columns that starts at at.
-pub fn field_at(line: &[u8], at: usize, w: usize) -> Field
+pub fn field_at(line: &[u8], at: usize, w: usize) -> Result<usize, NoNumber>
     requires { w ≤ 12 }
     ensures { result ≡ field_at w at line.now }
 {
@@ -137,59 +103,53 @@ pub fn field_at(line: &[u8], at: usize, w: usize) -> Field
 }
 
 // The byte in the column with which the number q ends.
+#[tactic(auto, unfolding(crate::specs::Decimal::column))]
 fn shown(q: usize, last: bool) -> u8
     ensures { result ≡ column last q }
 {
-    if q != 0 {
-        return 48 + (q % 10) as u8;
+    if q == 0 && !last {
+        b' '
+    } else {
+        48 + (q % 10) as u8
     }
-    if last {
-        return b'0';
-    }
-    b' '
 }
 
-// Writes the w columns of x from at on, the last column first.
-pub fn write_field(buf: &mut [u8], at: usize, w: usize, x: usize)
-    requires { at + w ≤ length buf.old }
-    ensures { buf.new ≡ sets buf.old at (columns w x) }
+// Writes the columns of x over a field, the last column first.
+// By index: it says which column is the last.
+pub fn write_field(field: &mut [u8], x: usize)
+    ensures { field.new ≡ columns (length field.old) x }
 {
+    let w = field.len();
     let mut q = x;
-    let mut i = w;
-    while i > 0 {
-        let c = shown(q, i == w);
-        i -= 1;
-        buf[at + i] = c;
-        q = q / 10;
+    for i in (0..w).rev() {
+        field[i] = shown(q, i + 1 == w);
+        q /= 10;
     }
 }
 
-// Writes w spaces from at on.
-fn write_spaces(buf: &mut [u8], at: usize, w: usize)
-    requires { at + w ≤ length buf.old }
-    ensures { buf.new ≡ sets buf.old at (spaces w) }
+// Writes spaces over a field. A loop: `fill` of a few columns is stored in other pieces than its neighbours, by a constant more.
+fn write_spaces(field: &mut [u8])
+    ensures { field.new ≡ spaces (length field.old) }
 {
-    let mut j = 0;
-    while j < w {
-        buf[at + j] = b' ';
-        j += 1;
+    for byte in field.iter_mut() {
+        *byte = b' ';
     }
 }
 
-// Writes the w columns of a number that fits them: spaces, and over them its digits, the last one first. Its turns depend on the number alone:
-// the loop of `write_field` over twelve columns becomes twelve divisions, by as many constants.
-pub fn write_number(buf: &mut [u8], at: usize, w: usize, x: usize)
-    requires { (x < 10 ^ w) × (1 ≤ w) × (at + w ≤ length buf.old) }
-    ensures { buf.new ≡ sets buf.old at (columns w x) }
+// Writes a number that fits its field: spaces, and over them its digits, the last one first. Its turns depend on the number alone, not on the
+// columns, which a `for` would go through: that loop of `write_field` over twelve columns becomes twelve divisions, by as many constants.
+pub fn write_number(field: &mut [u8], x: usize)
+    requires { (x < 10 ^ length field.old) × (1 ≤ length field.old) }
+    ensures { field.new ≡ columns (length field.old) x }
 {
-    write_spaces(buf, at, w);
-    let mut i = w - 1;
-    buf[at + i] = 48 + (x % 10) as u8;
+    let mut i = field.len() - 1;
+    write_spaces(field);
+    field[i] = 48 + (x % 10) as u8;
     let mut rest = x / 10;
     while rest > 0 {
         i -= 1;
-        buf[at + i] = 48 + (rest % 10) as u8;
-        rest = rest / 10;
+        field[i] = 48 + (rest % 10) as u8;
+        rest /= 10;
     }
 }
 
@@ -198,17 +158,5 @@ pub fn copy_in(buf: &mut [u8], at: usize, src: &[u8])
     requires { at + length src.now ≤ length buf.old }
     ensures { buf.new ≡ sets buf.old at src.now }
 {
-    let mut j = 0;
-    while j < src.len() {
-        buf[at + j] = src[j];
-        j += 1;
-    }
-}
-
-// Writes one byte at at.
-pub fn write_byte(buf: &mut [u8], at: usize, b: u8)
-    requires { at < length buf.old }
-    ensures { buf.new ≡ sets buf.old at (b ∷ []) }
-{
-    buf[at] = b;
+    buf[at..at + src.len()].copy_from_slice(src);
 }

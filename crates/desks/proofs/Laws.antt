@@ -2,18 +2,21 @@
 -- Assumes nothing.
 use mathlib.Core.Path.{◌≡◌, refl, sym, ap, ◌∙◌}
 use mathlib.Core.Logic.{◌≢◌, inl, inr}
-use mathlib.Core.Bool.{Bool, true, false, ◌||◌, cond}
+use mathlib.Core.Bool.{Bool, true, false, ◌||◌, ◌&&◌, cond}
 use mathlib.Core.List.{List}
-use Prim.Native.Nat.{ℕ, ◌+◌, ◌^◌, ◌≤◌, ◌<◌}
+use Prim.Native.Nat.{ℕ, zero, suc, ◌+◌, ◌^◌, ◌≤◌, ◌<◌}
 use native.Mathlib.Omega.{arith}
 use lib.Dec.{leb}
 use lib.Bits.{bit_and, bit_or}
-use lib.ListN.{get_or}
+use native.Mathlib.Numerals.{add-one}
+use lib.ListN.{get_or, length, take}
+use Rattle.std.specs.List.{list_all}
+use Rattle.std.proofs.lemmas.List.{take_all}
+use Rattle.std.proofs.lemmas.List.Folds.{list_all_more}
 use borrow.Author.Tests.{leb-true, le-leb, lt-leb}
-use Rattle.bounded.specs.Bounded.{any}
+use Rattle.bounded.specs.Bounded.{any, all}
 use Rattle.bounded.proofs.Bools.{clash, off, split?, which, and_l, or-false, ◌&◌}
 use Rattle.bounded.proofs.Tests.{all-e, all-i, any-i, any-o, any-suc}
-use Rattle.bounded.proofs.Loops.{AllFar, all-far-more, all-call, all-over}
 use Rattle.bounded.proofs.Sums.{count_none, count-lacks, count-mono, count-but-one}
 use Rattle.sets.specs.Sets.{member, size_of}
 use Rattle.sets.proofs.Members.{member-or, member-zero}
@@ -110,19 +113,20 @@ module _ (limit : ℕ) (ds : List ℕ) (m : ℕ) where
 
 -- ---- whether all are in the limit
 
+-- the first i elements of a list pass, by index
+all-first : (p : ℕ → Bool) (xs : List ℕ) (i : ℕ) → i ≤ length xs → list_all p (take i xs) ≡ all (λ d. p (get_or xs d 0)) i
+unfolding all
+all-first p xs zero h = refl
+all-first p xs (suc i) h =
+    ap (λ (k : ℕ). list_all p (take k xs)) (sym (add-one i))
+    ∙ list_all_more p xs i 0 (omega arith)
+    ∙ ap (λ (b : Bool). b && p (get_or xs i 0)) (all-first p xs i (omega arith))
+
 module _ (limit : ℕ) (ds : List ℕ) (m : ℕ) where
   pub few-kept : size_of m ≤ limit → true ≡ all_in_limit limit ds m
   few-kept h = sym (kept-i limit ds m (λ d l. omega (arith, open-few ds d m)))
 
-  module _ (d x : ℕ) (e : x ≡ size_of (bit_and (get_or ds d 0) m)) where
-    pub above : d < 8 → limit < x → false ≡ all_in_limit limit ds m
-    unfolding all_in_limit in_limit open_at
-    above l h = all-call (in_limit limit ds m) 8 d l false (sym (lt-leb (open_at ds m d) limit (omega arith))) refl
-
-    pub within : x ≤ limit → AllFar (in_limit limit ds m) d → AllFar (in_limit limit ds m) (d + 1)
-    unfolding in_limit open_at
-    within h far = all-far-more (in_limit limit ds m) d far (le-leb (open_at ds m d) limit (omega arith))
-
-  pub all-kept : (d : ℕ) → AllFar (in_limit limit ds m) d → 8 ≤ d → true ≡ all_in_limit limit ds m
-  unfolding all_in_limit
-  all-kept d far h = all-over (in_limit limit ds m) 8 d far h
+  -- `all` over the eight desks of a list
+  pub all-kept : length ds ≡ 8 → list_all (λ s. leb (size_of (bit_and s m)) limit) ds ≡ all_in_limit limit ds m
+  unfolding all_in_limit in_limit open_at
+  all-kept e = sym (ap (list_all (λ s. leb (size_of (bit_and s m)) limit)) (take_all 8 ds (omega arith))) ∙ all-first (λ s. leb (size_of (bit_and s m)) limit) ds 8 (omega arith)

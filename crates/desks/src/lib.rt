@@ -25,8 +25,8 @@ pub fn full(limit: usize, desks: &[u64; 8], matters: u64) -> u64
         return 0;
     }
     let mut at_full: u64 = 0;
-    for d in 0..8 {
-        at_full = with_desk(at_full, limit, desks[d], matters);
+    for desk in desks {
+        at_full = with_desk(at_full, limit, *desk, matters);
     }
     at_full
 }
@@ -38,10 +38,7 @@ pub fn all_in_limit(limit: usize, desks: &[u64; 8], matters: u64) -> bool
     if sets::size(matters) <= limit {
         return true;
     }
-    for d in 0..8 {
-        if sets::size(desks[d] & matters) > limit {
-            return false;
-        }
-    }
-    true
+    desks
+        .iter()
+        .all(|desk| sets::size(*desk & matters) <= limit)
 }

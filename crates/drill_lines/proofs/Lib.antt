@@ -1,3 +1,3 @@
 -- The laws of crate `drill_lines`.
 pub mod PrintLaws
-pub mod StepLaws
+pub mod Refusals

@@ -1,13 +1,13 @@
 -- What the drill has in hand after a call, and what that says of the calls so far; and that these are a list of calls, of which the whole
 -- campaign's claim speaks.
 -- Assumes nothing.
+use Rattle.std.specs.Prelude.{Option, Some, None}
 use Prim.Native.Nat.{ℕ}
 use mathlib.Core.Path.{◌≡◌, refl, sym, ◌∙◌}
 use mathlib.Core.Bool.{true}
 use mathlib.Core.List.{List, [], ◌∷◌, ◌++◌}
-use native.Mathlib.Omega.{arith}
 use lib.ListN.{length}
-use Rattle.guarantee.specs.Machine.{Asked, next_order, replied}
+use Rattle.guarantee.specs.Machine.{Asked, next_order}
 use Rattle.calls.specs.Calls.{sheet_passes, start_call, start_leaves, asked_call, asked_leaves}
 use Rattle.whole_campaign.specs.Calls.{Call, single, leaves}
 use Rattle.whole_campaign.specs.Lists.{left_on}
@@ -17,63 +17,41 @@ use Rattle.whole_campaign.proofs.Whole.{whole-campaign}
 use Rattle.decimal.specs.Decimal.{columns, columns_to, same_bytes}
 use Rattle.event_lines.specs.Line.{line_text, is_line, line_of}
 use Rattle.drill_lines.specs.Steps.{step_of}
-use Rattle.event_lines.specs.declared.Line.{Line}
-use Rattle.event_lines.specs.declared.Line.TheVariants.{Given, Misformed}
+use Rattle.event_lines.specs.declared.Event.{Event}
 use Rattle.drill_lines.specs.declared.Step.{Step}
 use Rattle.drill_lines.specs.declared.Step.TheVariants.{TakeOrder, ReadReply}
 use Rattle.drill_run.specs.Drilled.{heard_of, heard_leaves, HeardAs, Drilled, begun, ordered, heard, Played, DrilledFromStart}
-use Rattle.drill_run.specs.declared.Heard.{Heard}
-use Rattle.drill_run.specs.declared.Heard.TheVariants.{Answer, Nothing}
 
--- ---- a reply handed on
-
-no_text : line_of [] ≡ Misformed
+-- the input has ended
+no_text : line_of [] ≡ None
 unfolding line_of is_line line_text columns columns_to same_bytes
 no_text = refl
 
--- the input has ended
-pub ended : (s st : List ℕ) → HeardAs s st Nothing st
-unfolding heard_of heard_leaves
+pub ended : (s st : List ℕ) → HeardAs s st None st
 ended s st = ([], rw no_text, rw no_text)
-
-module _ (s st line : List ℕ) (y : Line) (e : y ≡ line_of line) where
-  pub no-reply : y ≡ Misformed → (Nothing ≡ heard_of s st (line_of line)) × (st ≡ heard_leaves s st (line_of line))
-  unfolding heard_of heard_leaves
-  no-reply k = let z : line_of line ≡ Misformed = sym e ∙ k in (rw z, rw z)
-
-  pub handed-on : (letter booking a : ℕ) (st' : List ℕ) → y ≡ Given letter booking → a ≡ asked_call s st (replied letter booking)
-      → st' ≡ asked_leaves s st (replied letter booking) → (Answer a ≡ heard_of s st (line_of line)) × (st' ≡ heard_leaves s st (line_of line))
-  unfolding heard_of heard_leaves
-  handed-on letter booking a st' k f g = let z : line_of line ≡ Given letter booking = sym e ∙ k in (rw (z, f), rw z g)
 
 -- ---- one turn
 
 module _ (s : List ℕ) (b₀ : ℕ) (st₀ : List ℕ) (b : ℕ) (st st' : List ℕ) (d : Drilled s b₀ st₀ b st) where
-  module _ (t : Step) (e : t ≡ step_of b) where
-    pub order-taken : (a : ℕ) → t ≡ TakeOrder → a ≡ asked_call s st next_order → st' ≡ asked_leaves s st next_order → Drilled s b₀ st₀ a st'
-    order-taken a k f g = ordered d (sym e ∙ k) (record { answered = f; leaves = g })
+  pub order-taken : (t : Step) (a : ℕ) → t ≡ step_of b → t ≡ TakeOrder → a ≡ asked_call s st next_order → st' ≡ asked_leaves s st next_order
+      → Drilled s b₀ st₀ a st'
+  order-taken t a e k f g = ordered d (sym e ∙ k) (record { answered = f; leaves = g })
 
-    pub reply-heard : (h : Heard) (a : ℕ) → t ≡ ReadReply → HeardAs s st h st' → h ≡ Answer a → Drilled s b₀ st₀ a st'
-    unfolding heard_of heard_leaves
-    reply-heard h a k (line, f, g) n = go (line_of line) (sym n ∙ f) g
+  module _ (h : Option ℕ) (was : HeardAs s st h st') where
+    pub reply-heard : (t : Step) (a : ℕ) → t ≡ step_of b → t ≡ ReadReply → h ≡ Some a → Drilled s b₀ st₀ a st'
+    reply-heard t a e k n = go (line_of was.0) (sym n ∙ was.1) was.2
       where
-        go : (y : Line) → Answer a ≡ heard_of s st y → st' ≡ heard_leaves s st y → Drilled s b₀ st₀ a st'
-        go (Given letter booking) p q =
-            let z : a ≡ asked_call s st (replied letter booking) = cc in
-            heard letter booking d (sym e ∙ k) (record { answered = z; leaves = q })
-        go Misformed p q = let z : ◌≡◌ {A = ℕ} 0 1 = cc in absurd (omega arith)
+        go : (y : Option Event) → Some a ≡ heard_of s st y → st' ≡ heard_leaves s st y → Drilled s b₀ st₀ a st'
+        go (Some y) p q = heard y.letter y.booking d (sym e ∙ k) (record { answered = cc; leaves = q })
+        go None p q = absurd (cc)
 
-  -- nothing heard, nothing done
-  pub silence : (h : Heard) → HeardAs s st h st' → h ≡ Nothing → Played s b₀ st₀ st'
-  unfolding heard_of heard_leaves
-  silence h (line, f, g) n = go (line_of line) (sym n ∙ f) g
-    where
-      go : (y : Line) → Nothing ≡ heard_of s st y → st' ≡ heard_leaves s st y → Played s b₀ st₀ st'
-      go (Given letter booking) p q = let z : ◌≡◌ {A = ℕ} 0 1 = cc in absurd (omega arith)
-      go Misformed p q = (b, rw q d)
-
-pub played : (s : List ℕ) (b₀ : ℕ) (st₀ : List ℕ) (b : ℕ) (st : List ℕ) → Drilled s b₀ st₀ b st → Played s b₀ st₀ st
-played s b₀ st₀ b st d = (b, d)
+    -- nothing heard, nothing done
+    pub silence : h ≡ None → Played s b₀ st₀ st'
+    silence n = go (line_of was.0) (sym n ∙ was.1) was.2
+      where
+        go : (y : Option Event) → None ≡ heard_of s st y → st' ≡ heard_leaves s st y → Played s b₀ st₀ st'
+        go (Some y) p q = absurd (cc)
+        go None p q = (b, rw q d)
 
 -- begun by start
 pub from_start : (s lent : List ℕ) (b₀ : ℕ) (st₀ st : List ℕ) → b₀ ≡ start_call s lent → st₀ ≡ start_leaves s lent → Played s b₀ st₀ st

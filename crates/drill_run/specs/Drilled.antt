@@ -1,16 +1,13 @@
 -- What the drill does to the state, whatever the input is: call after call on the sheet and on the state as the call before left it, each
 -- the call that the last answer asks for.
 -- Assumes nothing.
-use Rattle.std.specs.Prelude.{ℕ, ◌≡◌, List}
+use Rattle.std.specs.Prelude.{ℕ, ◌≡◌, List, Option, Some, None}
 use Rattle.guarantee.specs.Machine.{Asked, next_order, replied}
 use Rattle.calls.specs.Calls.{start_call, start_leaves, asked_call, asked_leaves}
 use Rattle.event_lines.specs.Line.{line_of}
 use Rattle.drill_lines.specs.Steps.{step_of}
-use Rattle.event_lines.specs.declared.Line.{Line}
-use Rattle.event_lines.specs.declared.Line.TheVariants.{Given, Misformed}
+use Rattle.event_lines.specs.declared.Event.{Event}
 use Rattle.drill_lines.specs.declared.Step.TheVariants.{TakeOrder, ReadReply}
-use Rattle.drill_run.specs.declared.Heard.{Heard}
-use Rattle.drill_run.specs.declared.Heard.TheVariants.{Answer, Nothing}
 
 -- a call on the sheet gives this answer and leaves this state
 pub record Called (sheet state : List ℕ) (q : Asked) (bits : ℕ) (left : List ℕ) : Type 0 where
@@ -18,16 +15,16 @@ pub record Called (sheet state : List ℕ) (q : Asked) (bits : ℕ) (left : List
   pub leaves : left ≡ asked_leaves sheet state q
 
 -- what comes of a reply, and the state after it; what is no reply changes nothing
-unfoldable pub heard_of : List ℕ → List ℕ → Line → Heard
-heard_of sheet state (Given letter booking) = Answer (asked_call sheet state (replied letter booking))
-heard_of sheet state Misformed = Nothing
+abbrev pub heard_of : List ℕ → List ℕ → Option Event → Option ℕ
+heard_of sheet state (Some reply) = Some (asked_call sheet state (replied reply.letter reply.booking))
+heard_of sheet state None = None
 
-unfoldable pub heard_leaves : List ℕ → List ℕ → Line → List ℕ
-heard_leaves sheet state (Given letter booking) = asked_leaves sheet state (replied letter booking)
-heard_leaves sheet state Misformed = state
+abbrev pub heard_leaves : List ℕ → List ℕ → Option Event → List ℕ
+heard_leaves sheet state (Some reply) = asked_leaves sheet state (replied reply.letter reply.booking)
+heard_leaves sheet state None = state
 
 -- some line was heard; it is empty where the input has ended or cannot be read
-abbrev pub HeardAs : List ℕ → List ℕ → Heard → List ℕ → Type 0
+abbrev pub HeardAs : List ℕ → List ℕ → Option ℕ → List ℕ → Type 0
 HeardAs sheet state heard left = (line : List ℕ) × (heard ≡ heard_of sheet state (line_of line)) × (left ≡ heard_leaves sheet state (line_of line))
 
 -- from an answer and a state to a later answer and state: orders are taken while the answers ask for it, else a reply is handed on

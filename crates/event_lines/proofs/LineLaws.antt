@@ -1,5 +1,5 @@
--- What a reader of a line has in hand at each of its returns, and what that says of `line_of`; what a writer of one has; and that a line
--- is read back as it was written.
+-- What a reader of a line has in hand at each of its returns, and what that says of `line_of`; and that a line is read back as it
+-- was written.
 -- Assumes nothing.
 use Prim.Native.Nat.{ℕ, ◌^◌, ◌<◌}
 use mathlib.Core.Path.{◌≡◌, refl, ap, ◌∙◌}
@@ -7,15 +7,23 @@ use mathlib.Core.List.{List, [], ◌∷◌, ◌++◌}
 use mathlib.Core.Bool.{Bool, true, false, cond}
 use native.Mathlib.Omega.{arith}
 use lib.ListN.{length, get_or, drop, drop_of_length-le}
-use lib.Seq.{drop-cons, sets}
-use Rattle.decimal.specs.Decimal.{columns, columns_to, same_bytes, field_at, number_at}
-use Rattle.decimal.specs.declared.Field.{Field}
-use Rattle.decimal.specs.declared.Field.TheVariants.{Number}
+use lib.Seq.{drop-cons}
+use Rattle.std.specs.Prelude.{Option, Some, None, Ok, Err}
+use Rattle.std.specs.Result.{result_ok}
+use Rattle.decimal.specs.Decimal.{columns, columns_to, same_bytes, Field, field_at, number_at}
 use Rattle.decimal.proofs.Bytes.{same_refl, same-eq, same-ne}
-use Rattle.decimal.proofs.Stores.{sets-next}
-use Rattle.decimal.proofs.Fields.{NoNumber, fault-in, number_is, field-then, number-in}
+use Rattle.decimal.proofs.Fields.{NotRead, fault-in, number_is, field-then, number-in}
 use Rattle.event_lines.specs.Line.{line_text, is_line, line_of}
-use Rattle.event_lines.specs.declared.Line.TheVariants.{Given, Misformed}
+use Rattle.event_lines.specs.declared.Event.{Event}
+
+-- ---- what `ok` leaves of a field
+
+pub ok-none : (f : Field) → result_ok f ≡ None → NotRead f
+ok-none f e y h = absurd (cc)
+
+pub ok-some : (f : Field) (y : ℕ) → result_ok f ≡ Some y → f ≡ Ok y
+ok-some (Ok x) y e = cc
+ok-some (Err n) y e = absurd (cc)
 
 -- ---- of another form
 
@@ -23,26 +31,26 @@ module _ (line : List ℕ) where
   text : List ℕ
   text = line_text (get_or line 0 0) (number_at 4 1 line)
 
-  not-text : (line ≡ text → ⊥) → Misformed ≡ line_of line
+  not-text : (line ≡ text → ⊥) → None ≡ line_of line
   unfolding line_of is_line text
   not-text h = rw (same-ne line (line_text (get_or line 0 0) (number_at 4 1 line)) h)
 
-  pub other-size : (length line ≡ 6 → ⊥) → Misformed ≡ line_of line
+  pub other-size : (length line ≡ 6 → ⊥) → None ≡ line_of line
   unfolding text line_text columns columns_to
   other-size h = not-text (λ e. h (ap length e))
 
-  pub no_number : (f : Field) → f ≡ field_at 4 1 line → NoNumber f → Misformed ≡ line_of line
+  pub no_number : (f : Field) → f ≡ field_at 4 1 line → NotRead f → None ≡ line_of line
   unfolding text line_text columns columns_to
   no_number f e g = not-text (fault-in 4 1 line f e text g refl)
 
-  pub no-feed : (get_or line 5 0 ≡ 10 → ⊥) → Misformed ≡ line_of line
+  pub no-feed : (get_or line 5 0 ≡ 10 → ⊥) → None ≡ line_of line
   unfolding text line_text columns columns_to
   no-feed h = not-text (λ e. h (ap (λ (l : List ℕ). get_or l 5 0) e))
 
 -- ---- of this form
 
-pub given : (line : List ℕ) (f : Field) (y : ℕ) → length line ≡ 6 → f ≡ field_at 4 1 line → f ≡ Number y → get_or line 5 0 ≡ 10
-    → Given (get_or line 0 0) y ≡ line_of line
+pub given : (line : List ℕ) (f : Field) (y : ℕ) → length line ≡ 6 → f ≡ field_at 4 1 line → f ≡ Ok y → get_or line 5 0 ≡ 10
+    → ◌≡◌ {A = Option Event} (Some (record { letter = get_or line 0 0; booking = y })) (line_of line)
 unfolding line_of is_line line_text
 given line f y n e g c =
     let s : line ≡ get_or line 0 0 ∷ drop 1 line = drop-cons line 0 0 (omega arith) in
@@ -57,36 +65,30 @@ given line f y n e g c =
 -- ---- both ways
 
 -- a line that is written is read
-pub line_read : (letter b : ℕ) → b < 10 ^ 4 → line_of (line_text letter b) ≡ Given letter b
+pub line_read : (letter b : ℕ) → b < 10 ^ 4 → line_of (line_text letter b) ≡ Some (record { letter = letter; booking = b })
 unfolding line_of is_line line_text columns columns_to
 line_read letter b h =
     let z : number_at 4 1 (letter ∷ (columns 4 b ++ (10 ∷ []))) ≡ b = number-in 4 1 b (letter ∷ (columns 4 b ++ (10 ∷ []))) h refl in
     rw (z, same_refl (letter ∷ (columns 4 b ++ (10 ∷ []))))
 
 -- a line that is read is its text
-pub read-text : (line : List ℕ) (letter b : ℕ) → line_of line ≡ Given letter b → line ≡ line_text letter b
+pub read-text : (line : List ℕ) (letter b : ℕ) → line_of line ≡ Some (record { letter = letter; booking = b }) → line ≡ line_text letter b
 unfolding line_of is_line
 read-text line letter b = go (same_bytes line text') (same-eq line text')
   where
     text' : List ℕ
     text' = line_text (get_or line 0 0) (number_at 4 1 line)
 
-    go : (t : Bool) → (t ≡ true → line ≡ text') → cond t (Given (get_or line 0 0) (number_at 4 1 line)) Misformed ≡ Given letter b → line ≡ line_text letter b
+    go : (t : Bool) → (t ≡ true → line ≡ text') → cond {A = Option Event} t (Some (record { letter = get_or line 0 0; booking = number_at 4 1 line })) None ≡ Some (record { letter = letter; booking = b }) → line ≡ line_text letter b
     go true h e =
-        let l : get_or line 0 0 ≡ letter = cc in
-        let y : number_at 4 1 line ≡ b = cc in
+        let v : ◌≡◌ {A = Event} (record { letter = get_or line 0 0; booking = number_at 4 1 line }) (record { letter = letter; booking = b }) = cc in
+        let l : get_or line 0 0 ≡ letter = ap (λ (x : Event). x.letter) v in
+        let y : number_at 4 1 line ≡ b = ap (λ (x : Event). x.booking) v in
         h refl ∙ rw (l, y)
-    go false h e = let z : ◌≡◌ {A = ℕ} 0 1 = cc in absurd (omega arith)
+    go false h e = absurd (cc)
 
 -- ---- written
 
 pub line-length : (letter x : ℕ) → length (line_text letter x) ≡ 6
 unfolding line_text columns columns_to
 line-length letter x = refl
-
-pub line-written : (d b1 b2 b3 : List ℕ) (letter x : ℕ) → b1 ≡ sets d 0 (letter ∷ []) → b2 ≡ sets b1 1 (columns 4 x) → b3 ≡ sets b2 5 (10 ∷ [])
-    → b3 ≡ sets d 0 (line_text letter x)
-unfolding line_text columns columns_to
-line-written d b1 b2 b3 letter x e f g =
-    let y : b2 ≡ sets d 0 (letter ∷ columns 4 x) = sets-next d b1 b2 0 1 (letter ∷ []) (columns 4 x) refl e f in
-    sets-next d b2 b3 0 5 (letter ∷ columns 4 x) (10 ∷ []) refl y g

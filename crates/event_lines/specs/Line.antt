@@ -2,10 +2,9 @@
 -- drill's input, and what the drill prints of an order or an end.
 -- Six bytes are of this form if they are the text of the letter and the number that stand at their columns.
 -- Assumes nothing.
-use Rattle.std.specs.Prelude.{ℕ, zero, suc, List, [], ◌∷◌, ◌++◌, Bool, ◌||◌, cond, eqb, get_or, take, drop}
+use Rattle.std.specs.Prelude.{ℕ, zero, suc, List, [], ◌∷◌, ◌++◌, Bool, ◌||◌, cond, Option, Some, None, eqb, get_or, take, drop}
 use Rattle.decimal.specs.Decimal.{columns, same_bytes, number_at}
-use Rattle.event_lines.specs.declared.Line.{Line}
-use Rattle.event_lines.specs.declared.Line.TheVariants.{Given, Misformed}
+use Rattle.event_lines.specs.declared.Event.{Event}
 
 -- the letters of an order: request, return
 abbrev pub Q : ℕ
@@ -24,10 +23,10 @@ unfoldable pub is_line : List ℕ → Bool
 is_line line = same_bytes line (line_text (get_or line 0 0) (number_at 4 1 line))
 
 -- the letter, whatever it is, and the number
-unfoldable pub line_of : List ℕ → Line
-line_of line = cond (is_line line) (Given (get_or line 0 0) (number_at 4 1 line)) Misformed
+unfoldable pub line_of : List ℕ → Option Event
+line_of line = cond (is_line line) (Some (record { letter = get_or line 0 0; booking = number_at 4 1 line })) None
 
 -- so many lines, one after the other
-unfoldable pub lines_from : ℕ → List ℕ → List Line
+unfoldable pub lines_from : ℕ → List ℕ → List (Option Event)
 lines_from zero rest = []
 lines_from (suc more) rest = line_of (take 6 rest) ∷ lines_from more (drop 6 rest)

@@ -1,23 +1,18 @@
-// The lines that the flights print: a name, a refusal (0 is none) and a place.
+// The lines that the flights print: a name and two numbers. A sheet's line has its refusal (0 is none) and the line that is refused.
 #![tactic(auto)]
 
-// Prints a line.
-pub fn show(name: &[u8], refusal: u64, place: u64) {
-    io::write_all(1, name);
-    io::write_all(1, b" ");
-    io::print_decimal(1, refusal);
-    io::write_all(1, b" ");
-    io::print_decimal(1, place);
-    io::write_all(1, b"\n");
+use std::io::Write;
+
+// Prints a line. A name is bytes: that of a sheet stands in the input, which need not be text. A line that cannot be printed is left out.
+pub fn show(rt: &HostRuntime, name: &[u8], first: u64, second: u64) {
+    let mut out = rt.stdout();
+    let _ = out.write_all(name);
+    let _ = writeln!(out, " {first} {second}");
 }
 
 // Reads a sheet and prints its line.
-pub fn read(name: &[u8], s: &[u8]) {
-    let sheet = sheet::read_sheet(s);
-    let j = sheet.judged;
-    show(
-        name,
-        plan::judged_refusal(j) as u64,
-        plan::judged_place(j) as u64,
-    );
+pub fn read(rt: &HostRuntime, name: &[u8], s: &[u8]) {
+    let judged = sheet::read_sheet(s).map(|_| ());
+    let refusal = u64::from(plan::judged_refusal(judged));
+    show(rt, name, refusal, plan::judged_place(judged) as u64);
 }

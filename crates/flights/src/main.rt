@@ -7,18 +7,13 @@ ghost use Rattle.std.specs.Prelude.{◌+◌, ◌≤◌, length};
 fn find(s: &[u8], from: usize, b: u8) -> usize
     ensures { (from ≤ result) × (result ≤ from + length s.now) }
 {
-    let mut i = from;
-    while i < s.len() {
-        if s[i] == b {
-            return i;
-        }
-        i += 1;
-    }
-    i
+    let rest = decimal::part(s, from, s.len());
+    from + rest.iter().position(|x| *x == b).unwrap_or(rest.len())
 }
 
-// Reads sheet after sheet. Each has its name on a line before it, and a semicolon and a line feed after it.
-fn read_all(cases: &[u8])
+// Reads sheet after sheet. Each has its name on a line before it, and a semicolon and a line feed after it. A `while`: the next place is
+// where this sheet ends.
+fn read_all(rt: &HostRuntime, cases: &[u8])
     requires { length cases.now ≤ 65536 }
 {
     let mut at = 0;
@@ -27,6 +22,7 @@ fn read_all(cases: &[u8])
         let sheet = line + 1;
         let end = find(cases, sheet, b';');
         flight_lines::read(
+            rt,
             decimal::part(cases, at, line - at),
             decimal::part(cases, sheet, end - sheet),
         );
@@ -34,8 +30,9 @@ fn read_all(cases: &[u8])
     }
 }
 
-fn main() {
-    let mut cases = io::large_buffer();
+fn main(rt: HostRuntime) {
+    let mut cases = [0u8; 65536];
+    // by the library `io`: where a read fails, what came before it is read as ever
     let n = io::read_full(0, &mut cases);
-    read_all(&cases[..n]);
+    read_all(&rt, &cases[..n]);
 }

@@ -17,9 +17,8 @@ use Rattle.network.specs.declared.Network.{Network}
 use Rattle.verdict.proofs.Facts.{Passes}
 use Rattle.standing.specs.Standing.{free, requested, held, lost, returning, code_is, coded}
 use Rattle.run.specs.State.{code, is, standing, put}
-use Rattle.run.specs.Replies.{Y, N, G, K, settle, after_no, fits, misfits, reply}
+use Rattle.run.specs.Replies.{Y, N, G, K, settle, after_no, fits, misfits, reply, Replied}
 use Rattle.run.specs.declared.Run.{Run}
-use Rattle.run.specs.declared.Replied.{Replied}
 use Rattle.run.proofs.Facts.{Core, Sound, coded-i}
 use Rattle.run.proofs.Cases.{ReplyCase, misfit, confirmed, refused, again, returned, kept, reply-case}
 use Rattle.run.proofs.Exits.{still-decides, settled, reply-y, reply-n, reply-g, reply-k}

@@ -16,10 +16,9 @@ use Rattle.verdict.proofs.Facts.{Passes}
 use Rattle.standing.specs.Standing.{free, requested, held, lost, returning}
 use Rattle.standing.specs.Ways.{first_live}
 use Rattle.run.specs.State.{code, standing, here, put, turn}
-use Rattle.run.specs.Replies.{Y, N, G, K, to_switch, settle}
+use Rattle.run.specs.Replies.{Y, N, G, K, to_switch, settle, Replied}
 use Rattle.run.specs.declared.Run.{Run}
 use Rattle.run.specs.declared.Ordered.{Ordered}
-use Rattle.run.specs.declared.Replied.{Replied}
 use Rattle.run.proofs.Facts.{Sound}
 use Rattle.run.proofs.Cases.{NextCase, blocked, gives, busy, asks, pends, over, flies, next-case, return-facts, request-facts, ReplyCase, misfit, confirmed as yes', refused, again as again', returned as returned', kept, reply-case}
 use Rattle.guarantee.specs.Answers.{pack, kind_of, refusal_of, place_of, order_bits, place9, reply_bits}

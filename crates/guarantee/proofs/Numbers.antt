@@ -10,8 +10,7 @@ use borrow.Author.Tests.{leb-true, le-ltb}
 use Rattle.bounded.proofs.Bools.{which, clash, split?}
 use Rattle.network.specs.declared.Network.{Network}
 use Rattle.run.specs.declared.Run.{Run}
-use Rattle.run.specs.declared.Replied.{Replied}
-use Rattle.run.specs.Replies.{reply, misfits}
+use Rattle.run.specs.Replies.{reply, misfits, Replied}
 use Rattle.guarantee.specs.Answers.{place9}
 use Rattle.guarantee.specs.Machine.{reply_to}
 

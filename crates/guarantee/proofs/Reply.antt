@@ -11,9 +11,8 @@ use Rattle.network.specs.declared.Network.{Network}
 use Rattle.verdict.proofs.Facts.{Passes}
 use Rattle.standing.specs.Standing.{free, requested, held, lost, returning}
 use Rattle.run.specs.State.{code, put}
-use Rattle.run.specs.Replies.{settle}
+use Rattle.run.specs.Replies.{settle, Replied}
 use Rattle.run.specs.declared.Run.{Run}
-use Rattle.run.specs.declared.Replied.{Replied}
 use Rattle.run.proofs.Facts.{Core, Sound}
 use Rattle.run.proofs.Cases.{ReplyCase, misfit, confirmed, refused, again, returned, kept}
 use Rattle.guarantee.proofs.Change.{Fits, hit, miss, change}

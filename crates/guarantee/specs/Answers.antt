@@ -2,8 +2,7 @@
 -- Kinds: 0 refused, 1 request, 2 return, 3 wait, 4 flown, 5 called off, 6 accepted.
 -- Assumes nothing.
 use Rattle.std.specs.Prelude.{Bool, cond, ℕ, suc, ◌+◌, ◌*◌, ◌/◌, ◌%◌, eqb, leb}
-use Rattle.verdict.specs.Check.{verdict_number, verdict_place}
-use Rattle.verdict.specs.declared.Verdict.{Verdict}
+use Rattle.verdict.specs.Check.{Verdict, verdict_number, verdict_place}
 use Rattle.run.specs.declared.Order.{Order}
 use Rattle.run.specs.declared.Order.TheVariants.{Request, Return, Wait, Flown, Off}
 

@@ -3,9 +3,8 @@
 use Rattle.std.specs.Prelude.{List, [], ◌∷◌, ℕ, zero, suc}
 use Rattle.network.specs.declared.Network.{Network}
 use Rattle.run.specs.Orders.{next}
-use Rattle.run.specs.Replies.{reply, misfits}
+use Rattle.run.specs.Replies.{reply, misfits, Replied}
 use Rattle.run.specs.declared.Run.{Run}
-use Rattle.run.specs.declared.Replied.{Replied}
 use Rattle.guarantee.specs.Answers.{order_bits, reply_bits}
 
 -- a call of next order, or of reply with a letter and a booking's number

@@ -6,7 +6,7 @@ use Rattle.bounded.proofs.Filled.{filled-same}
 use Rattle.plan.specs.Limits.{ours}
 use Rattle.plan.specs.declared.Plan.{Plan}
 use Rattle.lines.specs.Bookings.{no_bookings}
-use Rattle.lines.specs.Links.{no_links}
+use Rattle.plan.specs.Links.{no_links}
 use Rattle.ways.specs.Ways.{no_ways}
 use Rattle.sheet.proofs.ReadSheet.{read_plan}
 use Rattle.join.specs.Join.{row_at, pair_at, joined_plan}

@@ -12,13 +12,11 @@ use Rattle.plan.specs.Limits.{ours}
 use Rattle.plan.specs.Judging.{is_fine}
 use Rattle.plan.specs.Record.{record_of}
 use Rattle.plan.specs.declared.Plan.{Plan}
-use Rattle.plan.specs.declared.Judged.TheVariants.{Fine}
-use Rattle.plan.specs.declared.Judgement.TheVariants as R
+use Rattle.std.specs.Prelude.{Ok}
 use Rattle.plan.proofs.LimitLaws.{counted-e}
 use Rattle.plan.proofs.Valid.{Valid, fine-counted, valid-fine}
-use Rattle.sheet.specs.Sheet.{sheet_of}
+use Rattle.sheet.specs.Sheet.{Sheet, sheet_of}
 use Rattle.sheet.specs.Text.{longest_within}
-use Rattle.sheet.specs.declared.Sheet.{Sheet}
 use Rattle.sheet.proofs.Front.{sheet-front}
 use Rattle.sheet.proofs.ReadSheet.{sheet-read, length-bound, longest-is}
 use Rattle.network.specs.declared.Network.{Network}
@@ -67,16 +65,16 @@ module _ (s t : List ℕ) (cs : clear 7 s ≡ true) (ct : clear 7 t ≡ true) (f
   joined-valid : Valid (joined_plan (sheet_of s).plan (sheet_of t).plan)
   joined-valid = valid-joined (sheet_of s).plan (sheet_of t).plan (plan-valid s cs) (plan-valid t ct) in-limits
 
-  joined-fine : record_of (joined_plan (sheet_of s).plan (sheet_of t).plan) ≡ R.Fine
+  joined-fine : record_of (joined_plan (sheet_of s).plan (sheet_of t).plan) ≡ Ok tt
   joined-fine = valid-fine (joined_plan (sheet_of s).plan (sheet_of t).plan) joined-valid
 
   -- the joined sheet reads as the joined plan
-  pub joined-read : sheet_of (joined_text s t) ≡ record { judged = Fine; plan = joined_plan (sheet_of s).plan (sheet_of t).plan }
+  pub joined-read : sheet_of (joined_text s t) ≡ record { judged = Ok tt; plan = joined_plan (sheet_of s).plan (sheet_of t).plan }
   unfolding joined_text
   joined-read =
       let j : Plan = joined_plan (sheet_of s).plan (sheet_of t).plan in
       sheet-read j joined-fine ours (fine-counted j joined-fine)
-      ∙ ap {B = Sheet} (λ (p : Plan). record { judged = Fine; plan = p }) (read-joined (sheet_of s).plan (sheet_of t).plan in-limits)
+      ∙ ap {B = Sheet} (λ (p : Plan). record { judged = Ok tt; plan = p }) (read-joined (sheet_of s).plan (sheet_of t).plan in-limits)
 
   pub joined-plan : (sheet_of (joined_text s t)).plan ≡ joined_plan (sheet_of s).plan (sheet_of t).plan
   joined-plan = ap (λ (x : Sheet). x.plan) joined-read

@@ -1,8 +1,7 @@
 -- What a join is, told from the call's own answer and the bytes that it leaves; and three sheets joined in either grouping.
 -- Assumes nothing.
-use Rattle.std.specs.Prelude.{ℕ, suc, ◌+◌, ◌*◌, ◌≤◌, ◌<◌, ◌≡◌, true, false, cond, List, eqb, length, take}
+use Rattle.std.specs.Prelude.{ℕ, suc, ◌+◌, ◌*◌, ◌≤◌, ◌<◌, ◌≡◌, true, false, cond, List, eqb, length, take, Ok}
 use Rattle.plan.specs.Limits.{ours}
-use Rattle.plan.specs.declared.Judged.TheVariants.{Fine}
 use Rattle.sheet.specs.Sheet.{sheet_of}
 use Rattle.sheet.specs.Text.{longest_within}
 use Rattle.network.specs.Network.{way_of, in_way, pre}
@@ -20,7 +19,7 @@ module _ (s t d : List ℕ) where
   -- THE CALL WAS ANSWERED WITH KIND 6
   pub record Joined : Type 0 where
     -- these bytes are read as the joined plan
-    pub plan : sheet_of shown ≡ record { judged = Fine; plan = joined_plan (sheet_of s).plan (sheet_of t).plan }
+    pub plan : sheet_of shown ≡ record { judged = Ok tt; plan = joined_plan (sheet_of s).plan (sheet_of t).plan }
     -- none of 1 to 7 is wrong with them; whether they pass is for the check to say
     pub clean : clear 7 shown ≡ true
     -- the ways are every pair: way i + 1 of the first sheet with each of the second's in order, then the first's next

@@ -1,62 +1,36 @@
-// A journal, read line after line: a reader that holds the lent bytes and how far it has come. Whoever reads lines keeps one for all of them.
+// A journal, read line after line: a reader that holds what is left of the lent bytes. Whoever reads lines goes over it with a `for`.
 #![tactic(auto)]
 
 ghost use Rattle.std.specs.Prelude.{◌≡◌};
-ghost use Rattle.journal.specs.Reading.{turn_at};
+ghost use Rattle.std.specs.Iterator.{item_count};
+ghost use Rattle.journal.specs.Reading.{lines_left, GivesLine};
 
-use event_lines::Line;
+use event_lines::Event;
 
-// What stands where a reader has come to: a whole line, or no more of them.
-#[derive(Clone, Copy)]
-pub enum Entry {
-    Whole(Line),
-    End,
-}
-
-// What was read, and how far the reader has come then.
-#[derive(Clone, Copy)]
-pub struct Turn {
-    pub entry: Entry,
-    pub at: usize,
-}
-
-// The work: the line at a place of the bytes.
-fn turn_at(bytes: &[u8], at: usize) -> Turn
-    ensures { result ≡ turn_at bytes.now at }
-{
-    if at > bytes.len() {
-        return Turn {
-            entry: Entry::End,
-            at,
-        };
-    }
-    if bytes.len() - at < 6 {
-        return Turn {
-            entry: Entry::End,
-            at,
-        };
-    }
-    let line = event_lines::read_line(decimal::part(bytes, at, 6));
-    Turn {
-        entry: Entry::Whole(line),
-        at: at + 6,
-    }
-}
-
-// A reader: the bytes that were lent, and how far it has come.
+// A reader: the bytes that are still to be read.
 #[derive(Clone, Copy)]
 pub struct Journal<'a> {
-    pub bytes: &'a [u8],
-    pub at: usize,
+    pub rest: &'a [u8],
 }
 
-// Reads the line where the reader has come to, and moves it on past it.
-pub fn read_on<'s, 'a>(j: &'s mut Journal<'a>) -> Entry
-    ensures { (result ≡ (turn_at j.old.bytes.now j.old.at).entry)
-        × (j.new.bytes ≡ j.old.bytes)
-        × (j.new.at ≡ (turn_at j.old.bytes.now j.old.at).at) }
+// A reader of these bytes, from the front on.
+pub fn lines(bytes: &[u8]) -> Journal<'_>
+    ensures { result.rest.now ≡ bytes.now }
 {
-    let turn = turn_at(j.bytes, j.at);
-    j.at = turn.at;
-    turn.entry
+    Journal { rest: bytes }
+}
+
+// What each whole line holds; the end where fewer than six bytes are left, which stay.
+impl<'a> Iterator for Journal<'a> {
+    type Item = Option<Event>;
+
+    ghost next_gives = { GivesLine };
+
+    ghost remaining = { item_count lines_left };
+
+    fn next(&mut self) -> Option<Option<Event>> {
+        let (line, rest) = self.rest.split_at_checked(6)?;
+        self.rest = rest;
+        Some(event_lines::read_line(line))
+    }
 }

@@ -1,11 +1,10 @@
 -- The journal: each request or return taken and each accepted reply has a line, its letter and its booking. Which line a call has,
 -- which call a line is of, and what the call that writes a line gives and leaves.
 -- Assumes nothing.
-use Rattle.std.specs.Prelude.{Bool, ◌&&◌, ◌||◌, cond, List, [], ◌∷◌, ◌++◌, ℕ, zero, suc, ◌/◌, eqb, leb, length, take, drop}
+use Rattle.std.specs.Prelude.{Option, Some, None, Bool, ◌&&◌, ◌||◌, cond, List, [], ◌∷◌, ◌++◌, ℕ, zero, suc, ◌/◌, eqb, leb, length, take, drop}
 use Rattle.std.proofs.lemmas.List.Edits.{sets}
 use Rattle.event_lines.specs.Line.{Q, U, is_order, line_text, line_of}
-use Rattle.event_lines.specs.declared.Line.{Line}
-use Rattle.event_lines.specs.declared.Line.TheVariants.{Given, Misformed}
+use Rattle.event_lines.specs.declared.Event.{Event}
 use Rattle.run.specs.Replies.{Y, N, G, K}
 use Rattle.guarantee.specs.Answers.{pack, kind_of, place_of, place9}
 use Rattle.guarantee.specs.Machine.{Asked, next_order, replied}
@@ -27,9 +26,9 @@ journal_of (q ∷ qs) (x ∷ xs) = entry_of q x ++ journal_of qs xs
 -- ---- from lines to calls
 
 -- the call that a line is of: next order, or a reply; what is no line is of none, and it does not matter which is named
-unfoldable pub call_on : Line → Asked
-call_on (Given l b) = cond (is_order l) next_order (replied l b)
-call_on Misformed = next_order
+unfoldable pub call_on : Option Event → Asked
+call_on (Some e) = cond (is_order e.letter) next_order (replied e.letter e.booking)
+call_on None = next_order
 
 -- the calls of so many lines, and of all whole lines of a journal; fewer than six bytes at the end are none
 unfoldable pub calls_from : ℕ → List ℕ → List Asked

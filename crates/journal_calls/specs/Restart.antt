@@ -1,25 +1,23 @@
 -- Restart: the state that follows the whole lines of a journal, from the start. A tail shorter than six bytes is dropped.
 -- Assumes nothing.
-use Rattle.std.specs.Prelude.{Bool, ◌&&◌, cond, List, ℕ, zero, suc, ◌+◌, ◌/◌, eqb, leb, length, take, drop}
+use Rattle.std.specs.Prelude.{Option, Some, None, Result, Ok, Err, ⊤, Bool, ◌&&◌, cond, List, ℕ, zero, suc, ◌+◌, ◌/◌, eqb, leb, length, take, drop}
 use Rattle.event_lines.specs.Line.{line_of, is_order}
-use Rattle.event_lines.specs.declared.Line.{Line}
-use Rattle.event_lines.specs.declared.Line.TheVariants.{Given, Misformed}
+use Rattle.event_lines.specs.declared.Event.{Event}
 use Rattle.network.specs.declared.Network.{Network}
 use Rattle.run.specs.State.{start}
 use Rattle.run.specs.Bytes.{bytes_of}
 use Rattle.run.specs.Orders.{next}
-use Rattle.run.specs.Replies.{misfits}
+use Rattle.run.specs.Replies.{misfits, Replied}
 use Rattle.run.specs.declared.Run.{Run}
-use Rattle.run.specs.declared.Replied.{Replied}
 use Rattle.guarantee.specs.Answers.{pack, unsound}
 use Rattle.guarantee.specs.Machine.{reply_to}
 use Rattle.lent_state.specs.Due.{order_taken}
 use Rattle.calls.specs.Calls.{network_in, sheet_passes, check_call}
 
 -- a line is taken where it is the order that was due, or a reply that fits; and the state after it. A misformed one is not.
-unfoldable pub line_taken : Network → Run → Line → Replied
-line_taken g r (Given l b) = cond (is_order l) (order_taken (next g r) l b) (reply_to g r l b)
-line_taken g r Misformed = misfits r
+unfoldable pub line_taken : Network → Run → Option Event → Replied
+line_taken g r (Some e) = cond (is_order e.letter) (order_taken (next g r) e.letter e.booking) (reply_to g r e.letter e.booking)
+line_taken g r None = misfits r
 
 -- a journal replayed: the number of its first wrong line, or 0, and the state after the lines before it
 pub record Replayed : Type 0 where
@@ -36,6 +34,11 @@ replay_from (suc more) i g r rest =
 -- the whole lines of a journal, from the start
 unfoldable pub replay : Network → List ℕ → Replayed
 replay g journal = replay_from (length journal / 6) 1 g start journal
+
+-- what is told of it: the number of the first wrong line is an error
+unfoldable pub wrong_line : ℕ → Result ⊤ ℕ
+wrong_line zero = Ok tt
+wrong_line (suc i) = Err (suc i)
 
 -- refusal 12: its place is the line, 65,535 for any line beyond
 unfoldable pub line_place : ℕ → ℕ

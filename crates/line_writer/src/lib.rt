@@ -1,7 +1,7 @@
 // Writes the lines of a fixed width of a plan sheet into a lent buffer: the head, the bookings, the links. All other bytes are kept.
 #![tactic(auto)]
 
-ghost use Rattle.std.specs.Prelude.{◌≡◌, ◌+◌, ◌*◌, ◌≤◌, length};
+ghost use Rattle.std.specs.Prelude.{◌≡◌, ◌*◌, ◌≤◌, length};
 ghost use Rattle.std.proofs.lemmas.List.Edits.{sets};
 ghost use Rattle.plan.specs.Limits.{most_bookings, most_links};
 ghost use Rattle.lines.specs.Form.{head_bytes, booking_bytes, link_bytes};
@@ -13,71 +13,70 @@ ghost use Rattle.lines.specs.Links.{links_text};
 
 use lines::{BOOKING_BYTES, HEAD_BYTES, LINK_BYTES};
 
-// Writes the head line at the front.
-pub fn write_head(buf: &mut [u8], n: usize, m: usize, a: usize, limit: usize)
-    requires { head_bytes ≤ length buf.old }
-    ensures { buf.new ≡ sets buf.old 0 (head_text n m a limit) }
+// Writes the head line.
+// Four numbers and no `lines::Counts`: a plan has them one by one, and docs/RULES.md names this function.
+pub fn write_head(line: &mut [u8], n: usize, m: usize, a: usize, limit: usize)
+    requires { head_bytes ≤ length line.old }
+    ensures { line.new ≡ sets line.old 0 (head_text n m a limit) }
 {
-    decimal::write_byte(buf, 0, b'P');
-    decimal::write_field(buf, 1, 4, n);
-    decimal::write_field(buf, 5, 4, m);
-    decimal::write_field(buf, 9, 4, a);
-    decimal::write_field(buf, 13, 4, limit);
-    decimal::write_byte(buf, HEAD_BYTES - 1, 10);
+    line[0] = b'P';
+    decimal::write_field(&mut line[1..5], n);
+    decimal::write_field(&mut line[5..9], m);
+    decimal::write_field(&mut line[9..13], a);
+    decimal::write_field(&mut line[13..17], limit);
+    line[HEAD_BYTES - 1] = b'\n';
 }
 
-// Writes the line of booking number x, of kind k and at desk d, from at on.
-pub fn write_booking(buf: &mut [u8], at: usize, x: usize, k: u8, d: usize)
-    requires { at + booking_bytes ≤ length buf.old }
-    ensures { buf.new ≡ sets buf.old at (booking_text x k d) }
+// Writes the line of booking number x, of kind k and at desk d.
+pub fn write_booking(line: &mut [u8], x: usize, k: u8, d: usize)
+    requires { booking_bytes ≤ length line.old }
+    ensures { line.new ≡ sets line.old 0 (booking_text x k d) }
 {
-    decimal::write_byte(buf, at, b'B');
-    decimal::write_field(buf, at + 1, 4, x);
-    decimal::write_byte(buf, at + 5, b' ');
-    decimal::write_byte(buf, at + 6, k);
-    decimal::write_field(buf, at + 7, 4, d);
-    decimal::write_byte(buf, at + (BOOKING_BYTES - 1), 10);
+    line[0] = b'B';
+    decimal::write_field(&mut line[1..5], x);
+    line[5] = b' ';
+    line[6] = k;
+    decimal::write_field(&mut line[7..11], d);
+    line[BOOKING_BYTES - 1] = b'\n';
 }
 
-// Writes the line of the link from u to v from at on.
-pub fn write_link(buf: &mut [u8], at: usize, u: usize, v: usize)
-    requires { at + link_bytes ≤ length buf.old }
-    ensures { buf.new ≡ sets buf.old at (link_text u v) }
+// Writes the line of the link from u to v.
+pub fn write_link(line: &mut [u8], u: usize, v: usize)
+    requires { link_bytes ≤ length line.old }
+    ensures { line.new ≡ sets line.old 0 (link_text u v) }
 {
-    decimal::write_byte(buf, at, b'L');
-    decimal::write_field(buf, at + 1, 4, u);
-    decimal::write_field(buf, at + 5, 4, v);
-    decimal::write_byte(buf, at + (LINK_BYTES - 1), 10);
+    line[0] = b'L';
+    decimal::write_field(&mut line[1..5], u);
+    decimal::write_field(&mut line[5..9], v);
+    line[LINK_BYTES - 1] = b'\n';
 }
 
-// Writes the lines of the bookings 1 to n from at on.
-pub fn write_bookings(buf: &mut [u8], at: usize, n: usize, kind: [u8; 64], desk: [u8; 64])
-    requires { (n ≤ most_bookings) × (at + booking_bytes * n ≤ length buf.old) }
-    ensures { buf.new ≡ sets buf.old at (bookings_text n 0 kind desk) }
+// Writes the lines of the bookings 1 to n.
+// The count stands beside arrays of full size, as in a plan: `bookings_text` speaks of both.
+pub fn write_bookings(text: &mut [u8], n: usize, kind: &[u8; 64], desk: &[u8; 64])
+    requires { (n ≤ most_bookings) × (booking_bytes * n ≤ length text.old) }
+    ensures { text.new ≡ sets text.old 0 (bookings_text n 0 kind.now desk.now) }
 {
-    let mut i = 0;
-    while i < n {
+    // by index: it names a booking in both arrays, and its line
+    for i in 0..n {
         write_booking(
-            buf,
-            at + BOOKING_BYTES * i,
+            &mut text[BOOKING_BYTES * i..],
             i + 1,
             kind[i],
             desk[i] as usize,
         );
-        i += 1;
     }
 }
 
-// Writes the lines of m links from at on.
-pub fn write_links(buf: &mut [u8], at: usize, m: usize, from: [u8; 512], to: [u8; 512])
-    requires { (m ≤ most_links) × (at + link_bytes * m ≤ length buf.old) }
-    ensures { buf.new ≡ sets buf.old at (links_text m 0 from to) }
+// Writes the lines of m links.
+pub fn write_links(text: &mut [u8], m: usize, from: &[u8; 512], to: &[u8; 512])
+    requires { (m ≤ most_links) × (link_bytes * m ≤ length text.old) }
+    ensures { text.new ≡ sets text.old 0 (links_text m 0 from.now to.now) }
 {
-    let mut i = 0;
-    while i < m {
+    // by index: it names a link in both arrays, and its line
+    for i in 0..m {
         let u = from[i] as usize;
         let v = to[i] as usize;
-        write_link(buf, at + LINK_BYTES * i, u, v);
-        i += 1;
+        write_link(&mut text[LINK_BYTES * i..], u, v);
     }
 }

@@ -13,18 +13,17 @@ use native.Mathlib.Numerals.{add-one}
 use lib.ListN.{length, get_or, take, drop, set, length-set}
 use lib.Seq.{drop-drop, take_at, drop_at, take-add, get_or-set_same, get_or-set_other}
 use Rattle.bounded.proofs.Bools.{clash, and_l, and_r, ◌&◌, same?}
+use Rattle.plan.specs.Judging.{Judged}
 use Rattle.plan.specs.Record.{booking_at, link_at}
 use Rattle.plan.specs.Limits.{is_kind, is_desk, in_sequence}
-use Rattle.plan.specs.declared.Judged.TheVariants.{Fine, Form, Sequence}
 use Rattle.lines.specs.Form.{booking_bytes, link_bytes}
 use Rattle.lines.specs.Booking.{booking_text, kind_in, desk_in, booking_of}
 use Rattle.lines.specs.Link.{link_text, link_of}
 use Rattle.lines.specs.Bookings.{bookings_text, after_booking, bookings_of}
 use Rattle.lines.specs.Links.{Links, links_text, after_link, links_of}
-use Rattle.lines.specs.declared.Booking.{Booking}
-use Rattle.lines.specs.declared.Booking.TheVariants as B
-use Rattle.lines.specs.declared.Link.{Link}
-use Rattle.lines.specs.declared.Link.TheVariants as L
+use Rattle.std.specs.Prelude.{Result, Ok, Err}
+use Rattle.lines.specs.LineFault.{fault_on}
+use Rattle.lines.specs.declared.LineFault.{LineFault}
 use Rattle.lines.specs.declared.Bookings.{Bookings}
 use Rattle.bounded.proofs.Filled.{filled}
 use Rattle.lines.proofs.Lengths.{booking-length, link-length}
@@ -62,7 +61,7 @@ desk-at n i b ks ds rest h q =
     rw l.1 (its-desk (i + b + 1) (get_or ks (i + b) 0) (get_or ds (i + b) 0) l.0 q)
 
 pub bookings-read : (n i : ℕ) (ks ds rest ak ad : List ℕ) → i + n < 10 ^ 4 → ((j : ℕ) → i ≤ j → j < i + n → booking_at ks ds j ≡ true)
-    → bookings_of n i (bookings_text n i ks ds ++ rest) ak ad ≡ record { judged = Fine; kind = filled n i ks ak; desk = filled n i ds ad }
+    → bookings_of n i (bookings_text n i ks ds ++ rest) ak ad ≡ record { judged = Ok tt; kind = filled n i ks ak; desk = filled n i ds ad }
 unfolding bookings_of bookings_text filled booking_at
 bookings-read zero i ks ds rest ak ad h q = refl
 bookings-read (suc n) i ks ds rest ak ad h q =
@@ -72,7 +71,7 @@ bookings-read (suc n) i ks ds rest ak ad h q =
     let t : take booking_bytes (b ++ s) ≡ b = take_at b _ booking_bytes (booking-length _ _ _) in
     let d : drop booking_bytes (b ++ s) ≡ s = drop_at b _ booking_bytes (booking-length _ _ _) in
     let g : is_kind (get_or ks i 0) && is_desk (get_or ds i 0) ≡ true = q i (omega arith) (omega arith) in
-    let r : booking_of b (i + 1) ≡ B.Entry (get_or ks i 0) (get_or ds i 0) =
+    let r : booking_of b (i + 1) ≡ Ok (get_or ks i 0, get_or ds i 0) =
     booking-read (i + 1) (get_or ks i 0) (get_or ds i 0) (omega arith) (and_l (is_kind (get_or ks i 0)) _ g) (and_r (is_kind (get_or ks i 0)) _ g) in
     rw (e, t, d, r)
     (bookings-read n (i + 1) ks ds rest (set ak i (get_or ks i 0)) (set ad i (get_or ds i 0)) (omega arith) (λ j l u. q j (omega arith) (omega arith)))
@@ -83,7 +82,7 @@ pub record BookingsAre (n i : ℕ) (rest ak ad ks ds : List ℕ) : Type 0 where
   pub kept : (j : ℕ) → j < i → (get_or ks j 0 ≡ get_or ak j 0) × (get_or ds j 0 ≡ get_or ad j 0)
 
 pub bookings-accepted : (n i : ℕ) (rest ak ad ks ds : List ℕ) → i + n ≤ length ak → i + n ≤ length ad
-    → bookings_of n i rest ak ad ≡ record { judged = Fine; kind = ks; desk = ds } → BookingsAre n i rest ak ad ks ds
+    → bookings_of n i rest ak ad ≡ record { judged = Ok tt; kind = ks; desk = ds } → BookingsAre n i rest ak ad ks ds
 unfolding bookings_of bookings_text booking_at
 bookings-accepted zero i rest ak ad ks ds h m e =
     let k : ak ≡ ks = ap (λ (r : Bookings). r.kind) e in
@@ -97,12 +96,12 @@ bookings-accepted (suc n) i rest ak ad ks ds h m e =
     go (λ k d. bookings-accepted n (i + 1) (drop booking_bytes rest) (set ak i k) (set ad i d) ks ds (rw length-set (omega arith)) (rw length-set (omega arith)))
     (booking_of (take booking_bytes rest) (i + 1)) refl e
   where
-    go : ((k d : ℕ) → bookings_of n (i + 1) (drop booking_bytes rest) (set ak i k) (set ad i d) ≡ record { judged = Fine; kind = ks; desk = ds }
+    go : ((k d : ℕ) → bookings_of n (i + 1) (drop booking_bytes rest) (set ak i k) (set ad i d) ≡ record { judged = Ok tt; kind = ks; desk = ds }
         → BookingsAre n (i + 1) (drop booking_bytes rest) (set ak i k) (set ad i d) ks ds)
-        → (b : Booking) → booking_of (take booking_bytes rest) (i + 1) ≡ b
-        → after_booking b (i + 2) ak ad (λ k d. bookings_of n (i + 1) (drop booking_bytes rest) (set ak i k) (set ad i d)) ≡ record { judged = Fine; kind = ks; desk = ds }
+        → (b : Result (ℕ × ℕ) LineFault) → booking_of (take booking_bytes rest) (i + 1) ≡ b
+        → after_booking b (i + 2) ak ad (λ k d. bookings_of n (i + 1) (drop booking_bytes rest) (set ak i k) (set ad i d)) ≡ record { judged = Ok tt; kind = ks; desk = ds }
         → BookingsAre (suc n) i rest ak ad ks ds
-    go more (B.Entry k d) f g =
+    go more (Ok (k, d)) f g =
         let a : BookingsAre n (i + 1) (drop booking_bytes rest) (set ak i k) (set ad i d) ks ds = more k d g in
         let l : BookingIs (take booking_bytes rest) (i + 1) k d = booking-accepted (take booking_bytes rest) (i + 1) k d f in
         let v : get_or ks i 0 ≡ k = (a.kept i (omega arith)).0 ∙ get_or-set_same ak i k 0 (omega arith) in
@@ -116,14 +115,13 @@ bookings-accepted (suc n) i rest ak ad ks ds h m e =
             (a.kept j (omega arith)).1 ∙ get_or-set_other ad i j d 0 (λ q. omega arith),
           );
         }
-    go more B.Malformed f g = let w : Form (i + 2) ≡ Fine = ap (λ (r : Bookings). r.judged) g in clash true refl cc
-    go more B.OutOfSequence f g = let w : Sequence (i + 2) ≡ Fine = ap (λ (r : Bookings). r.judged) g in clash true refl cc
+    go more (Err e) f g = let w : ◌≡◌ {A = Judged} (Err (fault_on e (i + 2))) (Ok tt) = ap (λ (r : Bookings). r.judged) g in clash true refl cc
 
 -- ---- links
 
 pub links-read : (n m i : ℕ) (us vs rest : List ℕ) (lastFrom last_to : ℕ) (au av : List ℕ) → n < 10 ^ 4
     → ((j : ℕ) → i ≤ j → j < i + m → link_at n us vs j ≡ true) → lastFrom ≡ get_or (0 ∷ us) i 0 → last_to ≡ get_or (0 ∷ vs) i 0
-    → links_of n m i (links_text m i us vs ++ rest) lastFrom last_to au av ≡ record { judged = Fine; from = filled m i us au; to = filled m i vs av }
+    → links_of n m i (links_text m i us vs ++ rest) lastFrom last_to au av ≡ record { judged = Ok tt; from = filled m i us au; to = filled m i vs av }
 unfolding links_of links_text filled link_at
 links-read n zero i us vs rest lastFrom last_to au av h g p q = refl
 links-read n (suc m) i us vs rest lastFrom last_to au av h g p q =
@@ -144,7 +142,7 @@ pub record LinksAre (n m i : ℕ) (rest : List ℕ) (lastFrom last_to : ℕ) (au
   pub kept : (j : ℕ) → j < i → (get_or us j 0 ≡ get_or au j 0) × (get_or vs j 0 ≡ get_or av j 0)
 
 pub links-accepted : (n m i : ℕ) (rest : List ℕ) (lastFrom last_to : ℕ) (au av us vs : List ℕ) → i + m ≤ length au → i + m ≤ length av
-    → links_of n m i rest lastFrom last_to au av ≡ record { judged = Fine; from = us; to = vs } → LinksAre n m i rest lastFrom last_to au av us vs
+    → links_of n m i rest lastFrom last_to au av ≡ record { judged = Ok tt; from = us; to = vs } → LinksAre n m i rest lastFrom last_to au av us vs
 unfolding links_of links_text link_at
 links-accepted n zero i rest lastFrom last_to au av us vs h k e =
     let a : au ≡ us = ap (λ (r : Links). r.from) e in
@@ -158,12 +156,12 @@ links-accepted n (suc m) i rest lastFrom last_to au av us vs h k e =
     go (λ u v. links-accepted n m (i + 1) (drop link_bytes rest) u v (set au i u) (set av i v) us vs (rw length-set (omega arith)) (rw length-set (omega arith)))
     (link_of (take link_bytes rest) n lastFrom last_to) refl e
   where
-    go : ((u v : ℕ) → links_of n m (i + 1) (drop link_bytes rest) u v (set au i u) (set av i v) ≡ record { judged = Fine; from = us; to = vs }
+    go : ((u v : ℕ) → links_of n m (i + 1) (drop link_bytes rest) u v (set au i u) (set av i v) ≡ record { judged = Ok tt; from = us; to = vs }
         → LinksAre n m (i + 1) (drop link_bytes rest) u v (set au i u) (set av i v) us vs)
-        → (b : Link) → link_of (take link_bytes rest) n lastFrom last_to ≡ b
-        → after_link b (n + 2 + i) au av (λ u v. links_of n m (i + 1) (drop link_bytes rest) u v (set au i u) (set av i v)) ≡ record { judged = Fine; from = us; to = vs }
+        → (b : Result (ℕ × ℕ) LineFault) → link_of (take link_bytes rest) n lastFrom last_to ≡ b
+        → after_link b (n + 2 + i) au av (λ u v. links_of n m (i + 1) (drop link_bytes rest) u v (set au i u) (set av i v)) ≡ record { judged = Ok tt; from = us; to = vs }
         → LinksAre n (suc m) i rest lastFrom last_to au av us vs
-    go more (L.Pair u v) f g =
+    go more (Ok (u, v)) f g =
         let a : LinksAre n m (i + 1) (drop link_bytes rest) u v (set au i u) (set av i v) us vs = more u v g in
         let l : LinkIs (take link_bytes rest) n lastFrom last_to u v = link-accepted (take link_bytes rest) n lastFrom last_to u v f in
         let x : get_or us i 0 ≡ u = (a.kept i (omega arith)).0 ∙ get_or-set_same au i u 0 (omega arith) in
@@ -179,5 +177,4 @@ links-accepted n (suc m) i rest lastFrom last_to au av us vs h k e =
             (a.kept j (omega arith)).1 ∙ get_or-set_other av i j v 0 (λ q. omega arith),
           );
         }
-    go more L.Malformed f g = let w : Form (n + 2 + i) ≡ Fine = ap (λ (r : Links). r.judged) g in clash true refl cc
-    go more L.OutOfSequence f g = let w : Sequence (n + 2 + i) ≡ Fine = ap (λ (r : Links). r.judged) g in clash true refl cc
+    go more (Err e) f g = let w : ◌≡◌ {A = Judged} (Err (fault_on e (n + 2 + i))) (Ok tt) = ap (λ (r : Links). r.judged) g in clash true refl cc

@@ -10,9 +10,9 @@ use lib.Seq.{drop-drop}
 use Rattle.lines.specs.Form.{booking_bytes}
 use Rattle.lines.specs.Booking.{booking_of}
 use Rattle.lines.specs.Bookings.{after_booking, bookings_of}
-use Rattle.lines.specs.declared.Booking.{Booking}
-use Rattle.lines.specs.declared.Booking.TheVariants.{Entry, Malformed, OutOfSequence}
-use Rattle.plan.specs.declared.Judged.TheVariants.{Fine, Form, Sequence}
+use Rattle.std.specs.Prelude.{Result, Ok, Err}
+use Rattle.lines.specs.LineFault.{fault_on}
+use Rattle.lines.specs.declared.LineFault.{LineFault}
 use Rattle.lines.specs.declared.Bookings.{Bookings}
 
 -- one line, and the rest
@@ -23,23 +23,20 @@ step n i rest ks ds h =
     let e : n - i ≡ suc (n - (i + 1)) = omega arith in
     rw e
 
-module _ (n at i : ℕ) (s ks ds line : List ℕ) (b : Booking) (whole : Bookings) (h : i < n) (l : line ≡ take booking_bytes (drop (at + booking_bytes * i) s)) (e : b ≡ booking_of line (i + 1))
+module _ (n at i : ℕ) (s ks ds line : List ℕ) (b : Result (ℕ × ℕ) LineFault) (whole : Bookings) (h : i < n) (l : line ≡ take booking_bytes (drop (at + booking_bytes * i) s)) (e : b ≡ booking_of line (i + 1))
     (w : bookings_of (n - i) i (drop (at + booking_bytes * i) s) ks ds ≡ whole) where
   turned : after_booking b (i + 2) ks ds (λ k d. bookings_of (n - (i + 1)) (i + 1) (drop (at + booking_bytes * (i + 1)) s) (set ks i k) (set ds i d)) ≡ whole
   turned =
       let d : at + booking_bytes * i + booking_bytes ≡ at + booking_bytes * (i + 1) = omega arith in
       rw (e, l, ← d, ← drop-drop booking_bytes (at + booking_bytes * i) s, ← step n i (drop (at + booking_bytes * i) s) ks ds h) w
 
-  pub went_on : (k d : ℕ) → b ≡ Entry k d → bookings_of (n - (i + 1)) (i + 1) (drop (at + booking_bytes * (i + 1)) s) (set ks i k) (set ds i d) ≡ whole
+  pub went_on : (k d : ℕ) → b ≡ Ok (k, d) → bookings_of (n - (i + 1)) (i + 1) (drop (at + booking_bytes * (i + 1)) s) (set ks i k) (set ds i d) ≡ whole
   went_on k d g = rw g at turned
 
-  pub ill-formed : b ≡ Malformed → record { judged = Form (i + 2); kind = ks; desk = ds } ≡ whole
-  ill-formed g = rw g at turned
+  pub refused : (f : LineFault) → b ≡ Err f → record { judged = Err (fault_on f (i + 2)); kind = ks; desk = ds } ≡ whole
+  refused f g = rw g at turned
 
-  pub out-of-sequence : b ≡ OutOfSequence → record { judged = Sequence (i + 2); kind = ks; desk = ds } ≡ whole
-  out-of-sequence g = rw g at turned
-
-pub ended : (n i : ℕ) (rest ks ds : List ℕ) (whole : Bookings) → n ≤ i → bookings_of (n - i) i rest ks ds ≡ whole → record { judged = Fine; kind = ks; desk = ds } ≡ whole
+pub ended : (n i : ℕ) (rest ks ds : List ℕ) (whole : Bookings) → n ≤ i → bookings_of (n - i) i rest ks ds ≡ whole → record { judged = Ok tt; kind = ks; desk = ds } ≡ whole
 unfolding bookings_of
 ended n i rest ks ds whole h w =
     let e : n - i ≡ 0 = omega arith in

@@ -12,7 +12,8 @@ use Rattle.lines.specs.Head.{head_text}
 use Rattle.lines.specs.Booking.{booking_text}
 use Rattle.lines.specs.Link.{link_text}
 use Rattle.lines.specs.Bookings.{bookings_text, no_bookings}
-use Rattle.lines.specs.Links.{links_text, no_links}
+use Rattle.plan.specs.Links.{no_links}
+use Rattle.lines.specs.Links.{links_text}
 
 pub head-length : (n m a limit : ℕ) → length (head_text n m a limit) ≡ head_bytes
 unfolding head_text columns columns_to

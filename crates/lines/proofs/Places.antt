@@ -10,16 +10,15 @@ use Rattle.lines.specs.Bookings.{after_booking, bookings_of}
 use Rattle.lines.specs.Booking.{booking_of}
 use Rattle.lines.specs.Links.{Links, after_link, links_of}
 use Rattle.lines.specs.Link.{link_of}
-use Rattle.lines.specs.declared.Booking.{Booking}
-use Rattle.lines.specs.declared.Booking.TheVariants as B
+use Rattle.std.specs.Prelude.{Result, Ok, Err}
+use Rattle.lines.specs.declared.LineFault.{LineFault}
+use Rattle.lines.specs.declared.LineFault.TheVariants.{Malformed, OutOfSequence}
 use Rattle.lines.specs.declared.Bookings.{Bookings}
-use Rattle.lines.specs.declared.Link.{Link}
-use Rattle.lines.specs.declared.Link.TheVariants as L
 
-bookings-next : (b : Booking) (l m : ℕ) (ks ds : List ℕ) (f : ℕ → ℕ → Bookings) → l ≤ m → ((k d : ℕ) → Upto m (f k d).judged) → Upto m (after_booking b l ks ds f).judged
-bookings-next (B.Entry k d) l m ks ds f h n = n k d
-bookings-next B.Malformed l m ks ds f h n = record { place = h; few = omega arith }
-bookings-next B.OutOfSequence l m ks ds f h n = record { place = h; few = omega arith }
+bookings-next : (b : Result (ℕ × ℕ) LineFault) (l m : ℕ) (ks ds : List ℕ) (f : ℕ → ℕ → Bookings) → l ≤ m → ((k d : ℕ) → Upto m (f k d).judged) → Upto m (after_booking b l ks ds f).judged
+bookings-next (Ok entry) l m ks ds f h n = n entry.0 entry.1
+bookings-next (Err Malformed) l m ks ds f h n = record { place = h; few = omega arith }
+bookings-next (Err OutOfSequence) l m ks ds f h n = record { place = h; few = omega arith }
 
 pub bookings-small : (more i : ℕ) (rest ks ds : List ℕ) → Upto (i + more + 1) (bookings_of more i rest ks ds).judged
 unfolding bookings_of
@@ -28,10 +27,10 @@ bookings-small (suc more) i rest ks ds =
     bookings-next (booking_of (take booking_bytes rest) (i + 1)) (i + 2) (i + suc more + 1) ks ds _ (omega arith)
     (λ k d. further (i + suc more + 1) (omega arith) (bookings-small more (i + 1) (drop booking_bytes rest) (set ks i k) (set ds i d)))
 
-links-next : (b : Link) (l m : ℕ) (us vs : List ℕ) (f : ℕ → ℕ → Links) → l ≤ m → ((u v : ℕ) → Upto m (f u v).judged) → Upto m (after_link b l us vs f).judged
-links-next (L.Pair u v) l m us vs f h n = n u v
-links-next L.Malformed l m us vs f h n = record { place = h; few = omega arith }
-links-next L.OutOfSequence l m us vs f h n = record { place = h; few = omega arith }
+links-next : (b : Result (ℕ × ℕ) LineFault) (l m : ℕ) (us vs : List ℕ) (f : ℕ → ℕ → Links) → l ≤ m → ((u v : ℕ) → Upto m (f u v).judged) → Upto m (after_link b l us vs f).judged
+links-next (Ok pair) l m us vs f h n = n pair.0 pair.1
+links-next (Err Malformed) l m us vs f h n = record { place = h; few = omega arith }
+links-next (Err OutOfSequence) l m us vs f h n = record { place = h; few = omega arith }
 
 pub links-small : (n more i : ℕ) (rest : List ℕ) (lastFrom last_to : ℕ) (us vs : List ℕ) → Upto (n + 1 + i + more) (links_of n more i rest lastFrom last_to us vs).judged
 unfolding links_of

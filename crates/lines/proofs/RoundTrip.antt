@@ -1,7 +1,7 @@
 -- A line that is written of good values is read as these values, and an accepted line is, to the byte, what is written of what was read.
 -- Assumes nothing.
 use Prim.Native.Nat.{ℕ, ◌^◌, ◌<◌, ◌≤◌}
-use mathlib.Core.Path.{◌≡◌, refl, ◌∙◌, sym}
+use mathlib.Core.Path.{◌≡◌, refl, ap, ◌∙◌, sym}
 use mathlib.Core.List.{List, [], ◌++◌, append-nil}
 use mathlib.Core.Bool.{Bool, true, false, ◌&&◌, cond}
 use native.Mathlib.Omega.{arith}
@@ -17,10 +17,12 @@ use Rattle.plan.proofs.LimitLaws.{Limited, limited, desk-known, sequenced}
 use Rattle.lines.specs.Head.{head_text, booking_count_in, link_count_in, way_count_in, limit_in, is_head, counts_of, head_of}
 use Rattle.lines.specs.Booking.{booking_text, number_in, kind_in, desk_in, is_booking, entry_of, booking_of}
 use Rattle.lines.specs.Link.{link_text, from_in, to_in, is_link, pair_of, link_of}
-use Rattle.lines.specs.declared.Head.{Head}
-use Rattle.lines.specs.declared.Head.TheVariants as H
-use Rattle.lines.specs.declared.Booking.TheVariants as B
-use Rattle.lines.specs.declared.Link.TheVariants as L
+use Rattle.std.specs.Prelude.{Result, Ok, Err}
+use Rattle.lines.specs.declared.Counts.{Counts}
+use Rattle.lines.specs.declared.HeadFault.{HeadFault}
+use Rattle.lines.specs.declared.HeadFault.TheVariants as H
+use Rattle.lines.specs.declared.LineFault.{LineFault}
+use Rattle.lines.specs.declared.LineFault.TheVariants as L
 
 -- ---- the head
 
@@ -42,7 +44,7 @@ module _ (n m a limit : ℕ) where
   unfolding head_text columns columns_to
   its-limit rest h = number-in 4 13 limit (head_text n m a limit ++ rest) h refl
 
-  pub head_read : (most : Limits) → limits n m a limit ≡ true → counted most n m a ≡ true → head_of most (head_text n m a limit) ≡ H.Counts n m a limit
+  pub head_read : (most : Limits) → limits n m a limit ≡ true → counted most n m a ≡ true → head_of most (head_text n m a limit) ≡ Ok (record { bookings = n; links = m; ways = a; limit = limit })
   unfolding head_of is_head counts_of
   head_read most e c =
       let l : Limited n m a limit = limited n m a limit e in
@@ -56,7 +58,7 @@ pub record HeadIs (most : Limits) (line : List ℕ) (n m a limit : ℕ) : Type 0
   pub bookings : booking_count_in line ≡ n
   pub ways : way_count_in line ≡ a
 
-pub head-accepted : (most : Limits) (line : List ℕ) (n m a limit : ℕ) → head_of most line ≡ H.Counts n m a limit → HeadIs most line n m a limit
+pub head-accepted : (most : Limits) (line : List ℕ) (n m a limit : ℕ) → head_of most line ≡ Ok (record { bookings = n; links = m; ways = a; limit = limit }) → HeadIs most line n m a limit
 unfolding head_of is_head counts_of
 head-accepted most line n m a limit =
     go (same_bytes line (head_text (booking_count_in line) (link_count_in line) (way_count_in line) (limit_in line)))
@@ -65,20 +67,22 @@ head-accepted most line n m a limit =
   where
     go : (b c d : Bool) → (b ≡ true → line ≡ head_text (booking_count_in line) (link_count_in line) (way_count_in line) (limit_in line))
         → limits (booking_count_in line) (link_count_in line) (way_count_in line) (limit_in line) ≡ c → counted most (booking_count_in line) (link_count_in line) (way_count_in line) ≡ d
-        → cond b (cond c (cond d (H.Counts (booking_count_in line) (link_count_in line) (way_count_in line) (limit_in line)) H.Oversize) H.OutOfLimits) H.Malformed ≡ H.Counts n m a limit
+        → cond {A = Result Counts HeadFault} b (cond c (cond d (Ok (record { bookings = booking_count_in line; links = link_count_in line; ways = way_count_in line; limit = limit_in line })) (Err H.Oversize)) (Err H.OutOfLimits)) (Err H.Malformed) ≡ Ok (record { bookings = n; links = m; ways = a; limit = limit })
         → HeadIs most line n m a limit
     go true true true h l t e =
-        let x : booking_count_in line ≡ n = cc in
-        let y : link_count_in line ≡ m = cc in
-        let z : way_count_in line ≡ a = cc in
-        let o : limit_in line ≡ limit = cc in
+        let r : Counts = record { bookings = booking_count_in line; links = link_count_in line; ways = way_count_in line; limit = limit_in line } in
+        let g : r ≡ record { bookings = n; links = m; ways = a; limit = limit } = cc in
+        let x : booking_count_in line ≡ n = ap (λ (r : Counts). r.bookings) g in
+        let y : link_count_in line ≡ m = ap (λ (r : Counts). r.links) g in
+        let z : way_count_in line ≡ a = ap (λ (r : Counts). r.ways) g in
+        let o : limit_in line ≡ limit = ap (λ (r : Counts). r.limit) g in
         record { text = h refl ∙ rw (x, y, z, o); fit = rw (x, y, z, o) at l; taken = rw (x, y, z) at t; bookings = x; ways = z }
     go true true false h l t e = clash true refl cc
     go true false d h l t e = clash true refl cc
     go false c d h l t e = clash true refl cc
 
 -- the numbers of a head that was read are within the limits
-pub head-limits : (most : Limits) (line : List ℕ) (h : Head) (n m a limit : ℕ) → h ≡ head_of most line → h ≡ H.Counts n m a limit → Limited n m a limit
+pub head-limits : (most : Limits) (line : List ℕ) (h : Result Counts HeadFault) (n m a limit : ℕ) → h ≡ head_of most line → h ≡ Ok (record { bookings = n; links = m; ways = a; limit = limit }) → Limited n m a limit
 head-limits most line h n m a limit e g = limited n m a limit (head-accepted most line n m a limit (sym e ∙ g)).fit
 
 -- ---- a booking
@@ -96,7 +100,7 @@ pub its-desk : (x k d : ℕ) (rest : List ℕ) → d < 10 ^ 4 → desk_in (booki
 unfolding booking_text columns columns_to
 its-desk x k d rest h = number-in 4 7 d (booking_text x k d ++ rest) h refl
 
-pub booking-read : (x k d : ℕ) → x < 10 ^ 4 → is_kind k ≡ true → is_desk d ≡ true → booking_of (booking_text x k d) x ≡ B.Entry k d
+pub booking-read : (x k d : ℕ) → x < 10 ^ 4 → is_kind k ≡ true → is_desk d ≡ true → booking_of (booking_text x k d) x ≡ Ok (k, d)
 unfolding booking_of is_booking entry_of
 booking-read x k d h q r =
     let l : (1 ≤ d) × (d ≤ most_desks) = desk-known d r in
@@ -108,7 +112,7 @@ pub record BookingIs (line : List ℕ) (x k d : ℕ) : Type 0 where
   pub known : is_kind k ≡ true
   pub desk : is_desk d ≡ true
 
-pub booking-accepted : (line : List ℕ) (x k d : ℕ) → booking_of line x ≡ B.Entry k d → BookingIs line x k d
+pub booking-accepted : (line : List ℕ) (x k d : ℕ) → booking_of line x ≡ Ok (k, d) → BookingIs line x k d
 unfolding booking_of is_booking entry_of
 booking-accepted line x k d =
     go (same_bytes line (booking_text (number_in line) (kind_in line) (desk_in line))) (is_kind (kind_in line)) (eqb (number_in line) x) (is_desk (desk_in line))
@@ -116,10 +120,11 @@ booking-accepted line x k d =
   where
     go : (b c f g : Bool) → (b ≡ true → line ≡ booking_text (number_in line) (kind_in line) (desk_in line)) → is_kind (kind_in line) ≡ c
         → (f ≡ true → number_in line ≡ x) → is_desk (desk_in line) ≡ g
-        → cond (b && c) (cond (f && g) (B.Entry (kind_in line) (desk_in line)) B.OutOfSequence) B.Malformed ≡ B.Entry k d → BookingIs line x k d
+        → cond {A = Result (ℕ × ℕ) LineFault} (b && c) (cond (f && g) (Ok (kind_in line, desk_in line)) (Err L.OutOfSequence)) (Err L.Malformed) ≡ Ok (k, d) → BookingIs line x k d
     go true true true true h l n o e =
-        let y : kind_in line ≡ k = cc in
-        let z : desk_in line ≡ d = cc in
+        let g : ◌≡◌ {A = ℕ × ℕ} (kind_in line, desk_in line) (k, d) = cc in
+        let y : kind_in line ≡ k = ap (λ (p : ℕ × ℕ). p.0) g in
+        let z : desk_in line ≡ d = ap (λ (p : ℕ × ℕ). p.1) g in
         record { text = h refl ∙ rw (n refl, y, z); known = rw y at l; desk = rw z at o }
     go true true true false h l n o e = clash true refl cc
     go true true false g h l n o e = clash true refl cc
@@ -137,7 +142,7 @@ module _ (n lastFrom last_to u v : ℕ) where
   unfolding link_text columns columns_to
   to_in_lem h = number-in 4 5 v (link_text u v) h refl
 
-  pub link-read : n < 10 ^ 4 → in_sequence n lastFrom last_to u v ≡ true → link_of (link_text u v) n lastFrom last_to ≡ L.Pair u v
+  pub link-read : n < 10 ^ 4 → in_sequence n lastFrom last_to u v ≡ true → link_of (link_text u v) n lastFrom last_to ≡ Ok (u, v)
   unfolding link_of is_link pair_of
   link-read h e =
       let b = sequenced n lastFrom last_to u v e in
@@ -147,16 +152,17 @@ pub record LinkIs (line : List ℕ) (n lastFrom last_to u v : ℕ) : Type 0 wher
   pub text : line ≡ link_text u v
   pub follows : in_sequence n lastFrom last_to u v ≡ true
 
-pub link-accepted : (line : List ℕ) (n lastFrom last_to u v : ℕ) → link_of line n lastFrom last_to ≡ L.Pair u v → LinkIs line n lastFrom last_to u v
+pub link-accepted : (line : List ℕ) (n lastFrom last_to u v : ℕ) → link_of line n lastFrom last_to ≡ Ok (u, v) → LinkIs line n lastFrom last_to u v
 unfolding link_of is_link pair_of
 link-accepted line n lastFrom last_to u v =
     go (same_bytes line (link_text (from_in line) (to_in line))) (in_sequence n lastFrom last_to (from_in line) (to_in line)) (same-eq _ _) refl
   where
     go : (b c : Bool) → (b ≡ true → line ≡ link_text (from_in line) (to_in line)) → in_sequence n lastFrom last_to (from_in line) (to_in line) ≡ c
-        → cond b (cond c (L.Pair (from_in line) (to_in line)) L.OutOfSequence) L.Malformed ≡ L.Pair u v → LinkIs line n lastFrom last_to u v
+        → cond {A = Result (ℕ × ℕ) LineFault} b (cond c (Ok (from_in line, to_in line)) (Err L.OutOfSequence)) (Err L.Malformed) ≡ Ok (u, v) → LinkIs line n lastFrom last_to u v
     go true true h l e =
-        let x : from_in line ≡ u = cc in
-        let y : to_in line ≡ v = cc in
+        let g : ◌≡◌ {A = ℕ × ℕ} (from_in line, to_in line) (u, v) = cc in
+        let x : from_in line ≡ u = ap (λ (p : ℕ × ℕ). p.0) g in
+        let y : to_in line ≡ v = ap (λ (p : ℕ × ℕ). p.1) g in
         record { text = h refl ∙ rw (x, y); follows = rw (x, y) at l }
     go true false h l e = clash true refl cc
     go false c h l e = clash true refl cc

@@ -1,12 +1,11 @@
 -- The lines of the bookings 1, 2, .. n, which follow the head: booking b stands on line b + 1.
 -- Assumes nothing.
-use Rattle.std.specs.Prelude.{ℕ, zero, suc, ◌+◌, List, [], ◌++◌, get_or, take, drop, set, replicate}
+use Rattle.std.specs.Prelude.{ℕ, zero, suc, ◌+◌, List, [], ◌++◌, get_or, take, drop, set, replicate, Result, Ok, Err}
 use Rattle.plan.specs.Limits.{most_bookings}
 use Rattle.lines.specs.Form.{booking_bytes, links_place}
 use Rattle.lines.specs.Booking.{booking_text, kind_in, desk_in, booking_of}
-use Rattle.lines.specs.declared.Booking.{Booking}
-use Rattle.lines.specs.declared.Booking.TheVariants.{Entry, Malformed, OutOfSequence}
-use Rattle.plan.specs.declared.Judged.TheVariants.{Fine, Form, Sequence}
+use Rattle.lines.specs.LineFault.{fault_on}
+use Rattle.lines.specs.declared.LineFault.{LineFault}
 use Rattle.lines.specs.declared.Bookings.{Bookings}
 
 -- the lines of so many bookings, from the booking at index i on
@@ -22,14 +21,13 @@ unfoldable pub desk_on : List ℕ → ℕ → ℕ
 desk_on s b = desk_in (drop (links_place b) s)
 
 -- on with the kind and the desk that a line holds, or refused at line l with those so far
-abbrev pub after_booking : Booking → ℕ → List ℕ → List ℕ → (ℕ → ℕ → Bookings) → Bookings
-after_booking (Entry k d) l ks ds next = next k d
-after_booking Malformed l ks ds next = record { judged = Form l; kind = ks; desk = ds }
-after_booking OutOfSequence l ks ds next = record { judged = Sequence l; kind = ks; desk = ds }
+abbrev pub after_booking : Result (ℕ × ℕ) LineFault → ℕ → List ℕ → List ℕ → (ℕ → ℕ → Bookings) → Bookings
+after_booking (Ok entry) l ks ds next = next entry.0 entry.1
+after_booking (Err fault) l ks ds next = record { judged = Err (fault_on fault l); kind = ks; desk = ds }
 
 -- the kinds and desks that so many lines of the rest of a sheet give, from the booking at index i on
 unfoldable pub bookings_of : ℕ → ℕ → List ℕ → List ℕ → List ℕ → Bookings
-bookings_of zero i rest ks ds = record { judged = Fine; kind = ks; desk = ds }
+bookings_of zero i rest ks ds = record { judged = Ok tt; kind = ks; desk = ds }
 bookings_of (suc more) i rest ks ds =
     after_booking (booking_of (take booking_bytes rest) (i + 1)) (i + 2) ks ds (λ k d. bookings_of more (i + 1) (drop booking_bytes rest) (set ks i k) (set ds i d))
 

@@ -1,12 +1,13 @@
 -- The head line: `P`, then how many bookings, links and ways there are, and how many matters a desk may have open. It is judged whole for
 -- its form, then for these numbers, and then for what the caller takes.
 -- Assumes nothing.
-use Rattle.std.specs.Prelude.{ℕ, List, [], ◌∷◌, ◌++◌, Bool, not, ◌&&◌, cond}
+use Rattle.std.specs.Prelude.{ℕ, List, [], ◌∷◌, ◌++◌, Bool, not, ◌&&◌, cond, Result, Ok, Err}
 use Rattle.decimal.specs.Decimal.{columns, same_bytes, number_at}
 use Rattle.plan.specs.Limits.{counted, limits}
 use Rattle.plan.specs.declared.Limits.{Limits}
-use Rattle.lines.specs.declared.Head.{Head}
-use Rattle.lines.specs.declared.Head.TheVariants.{Counts, Malformed, OutOfLimits, Oversize}
+use Rattle.lines.specs.declared.Counts.{Counts}
+use Rattle.lines.specs.declared.HeadFault.{HeadFault}
+use Rattle.lines.specs.declared.HeadFault.TheVariants.{Malformed, OutOfLimits, Oversize}
 
 unfoldable pub head_text : ℕ → ℕ → ℕ → ℕ → List ℕ
 head_text n m a limit = 80 ∷ (columns 4 n ++ (columns 4 m ++ (columns 4 a ++ (columns 4 limit ++ (10 ∷ [])))))
@@ -29,12 +30,13 @@ unfoldable pub is_head : List ℕ → Bool
 is_head line = same_bytes line (head_text (booking_count_in line) (link_count_in line) (way_count_in line) (limit_in line))
 
 -- the numbers of a line of this form, if they are within the limits of every sheet, and then within those of the caller
-unfoldable pub counts_of : Limits → ℕ → ℕ → ℕ → ℕ → Head
-counts_of most n m a limit = cond (limits n m a limit) (cond (counted most n m a) (Counts n m a limit) Oversize) OutOfLimits
+unfoldable pub counts_of : Limits → ℕ → ℕ → ℕ → ℕ → Result Counts HeadFault
+counts_of most n m a limit =
+    cond (limits n m a limit) (cond (counted most n m a) (Ok (record { bookings = n; links = m; ways = a; limit = limit })) (Err Oversize)) (Err OutOfLimits)
 
 -- what a line holds that stands first, for a caller with such limits
-unfoldable pub head_of : Limits → List ℕ → Head
-head_of most line = cond (is_head line) (counts_of most (booking_count_in line) (link_count_in line) (way_count_in line) (limit_in line)) Malformed
+unfoldable pub head_of : Limits → List ℕ → Result Counts HeadFault
+head_of most line = cond (is_head line) (counts_of most (booking_count_in line) (link_count_in line) (way_count_in line) (limit_in line)) (Err Malformed)
 
 -- a line of this form whose numbers are within the limits of every sheet and over those of the caller
 unfoldable pub over_head : Limits → List ℕ → Bool

@@ -3,15 +3,17 @@
 
 ghost use Rattle.std.specs.Prelude.{◌≡◌, ◌≤◌, ◌<◌, drop};
 ghost use Rattle.plan.specs.Limits.{most_bookings, most_links};
+ghost use Rattle.plan.specs.Links.{no_links, empty_links};
 ghost use Rattle.lines.specs.Form.{links_place, ways_place, is_framed};
 ghost use Rattle.lines.specs.Head.{counts_of, head_of};
+ghost use Rattle.lines.specs.LineFault.{fault_on};
 ghost use Rattle.lines.specs.Booking.{booking_of};
 ghost use Rattle.lines.specs.Link.{link_of};
 ghost use Rattle.lines.specs.Bookings.{bookings_of, no_bookings};
-ghost use Rattle.lines.specs.Links.{links_of, no_links};
+ghost use Rattle.lines.specs.Links.{links_of};
 
-use decimal::Field;
-use plan::{Judged, Limits};
+use decimal::NoNumber;
+use plan::{Fault, Limits, Link, Links};
 
 // How many bytes the head has, its line feed included.
 pub const HEAD_BYTES: usize = 18;
@@ -22,35 +24,83 @@ pub const BOOKING_BYTES: usize = 12;
 // How many bytes a link's line has.
 pub const LINK_BYTES: usize = 10;
 
-// What the head line holds: the counts of bookings, links and ways and the limit of open matters, or why it is refused.
-#[derive(Clone, Copy)]
-pub enum Head {
-    Counts(usize, usize, usize, usize),
+// What the head line holds: how many bookings, links and ways a plan has, and how many matters a desk may have open.
+#[derive(Clone, Copy, PartialEq, Eq, Debug)]
+pub struct Counts {
+    pub bookings: usize,
+    pub links: usize,
+    pub ways: usize,
+    pub limit: usize,
+}
+
+// Why a head line is refused: a number is past the limits of the caller, it is of another form, or a number is outside the limits of every sheet.
+// In the order of the sheet's faults.
+#[derive(Clone, Copy, PartialEq, Eq, Debug)]
+pub enum HeadFault {
+    Oversize,
     Malformed,
     OutOfLimits,
-    Oversize,
 }
 
-// What a booking's line holds: the letter of its kind and the number of its desk, or why it is refused.
-#[derive(Clone, Copy)]
-pub enum Booking {
-    Entry(u8, u8),
+impl From<NoNumber> for HeadFault {
+    ghost use Rattle.lines.specs.declared.HeadFault.TheVariants.{Malformed};
+
+    ghost from_gives = { λ _ fault. fault ≡ Malformed };
+
+    fn from(_none: NoNumber) -> HeadFault {
+        HeadFault::Malformed
+    }
+}
+
+impl From<HeadFault> for Fault {
+    ghost use Rattle.lines.specs.HeadFault.{head_fault_of};
+
+    ghost from_gives = { λ head fault. fault ≡ head_fault_of head };
+
+    // The sheet's fault where this is the fault of its head, which is line 1.
+    fn from(head: HeadFault) -> Fault {
+        match head {
+            HeadFault::Malformed => Fault::Form(1),
+            HeadFault::OutOfLimits => Fault::Count(1),
+            HeadFault::Oversize => Fault::Oversize(1),
+        }
+    }
+}
+
+// Why the line of a booking or a link is refused: it is of another form, or a number is out of sequence or range.
+#[derive(Clone, Copy, PartialEq, Eq, Debug)]
+pub enum LineFault {
     Malformed,
     OutOfSequence,
 }
 
-// What a link's line holds: two bookings by number, or why it is refused.
-#[derive(Clone, Copy)]
-pub enum Link {
-    Pair(u8, u8),
-    Malformed,
-    OutOfSequence,
+impl From<NoNumber> for LineFault {
+    ghost use Rattle.lines.specs.declared.LineFault.TheVariants.{Malformed};
+
+    ghost from_gives = { λ _ fault. fault ≡ Malformed };
+
+    fn from(_none: NoNumber) -> LineFault {
+        LineFault::Malformed
+    }
 }
 
-// The kinds and desks that the lines of the bookings give; up to the refused line, if one is.
+impl LineFault {
+    // The sheet's fault, where this is the fault of such a line.
+    pub fn on(self, line: usize) -> Fault
+        ensures { result ≡ fault_on self line }
+    {
+        match self {
+            LineFault::Malformed => Fault::Form(line),
+            LineFault::OutOfSequence => Fault::Sequence(line),
+        }
+    }
+}
+
+// The kinds and desks that the lines of the bookings give; up to the refused line, if one is. No Result: the clause of `read_bookings`, and the
+// definition `bookings_of`, say what they are there too.
 #[derive(Clone, Copy)]
 pub struct Bookings {
-    pub judged: Judged,
+    pub judged: Result<(), Fault>,
     pub kind: [u8; 64],
     pub desk: [u8; 64],
 }
@@ -72,101 +122,84 @@ pub fn ways_place(n: usize, m: usize) -> usize
 }
 
 // Whether a line has w bytes, begins with a letter and ends in a line feed.
+#[tactic(auto, unfolding(crate::specs::Form::is_framed))]
 pub fn is_framed(line: &[u8], letter: u8, w: usize) -> bool
     requires { 1 ≤ w }
     ensures { result ≡ is_framed letter w line.now }
 {
-    if line.len() != w {
-        return false;
-    }
-    if line[0] != letter {
-        return false;
-    }
-    line[w - 1] == 10
+    line.len() == w && line[0] == letter && line[w - 1] == b'\n'
 }
 
 // The numbers of a head line, if they are within the limits of every sheet, and then within those of the caller.
-fn counts_of(most: Limits, n: usize, m: usize, a: usize, limit: usize) -> Head
-    ensures { result ≡ counts_of most n m a limit }
+#[tactic(auto, unfolding(crate::specs::Head::counts_of))]
+fn counts_of(most: Limits, counts: Counts) -> Result<Counts, HeadFault>
+    ensures { result ≡ counts_of most counts.bookings counts.links counts.ways counts.limit }
 {
-    if !plan::in_limits(n, m, a, limit) {
-        return Head::OutOfLimits;
+    if !plan::in_limits(counts.bookings, counts.links, counts.ways, counts.limit) {
+        return Err(HeadFault::OutOfLimits);
     }
-    if !plan::are_counted(most, n, m, a) {
-        return Head::Oversize;
+    if !plan::are_counted(most, counts.bookings, counts.links, counts.ways) {
+        return Err(HeadFault::Oversize);
     }
-    Head::Counts(n, m, a, limit)
+    Ok(counts)
 }
 
 // Reads the head line, for a caller with such limits.
-pub fn read_head(line: &[u8], most: Limits) -> Head
+pub fn read_head(line: &[u8], most: Limits) -> Result<Counts, HeadFault>
     ensures { result ≡ head_of most line.now }
 {
     if !is_framed(line, b'P', HEAD_BYTES) {
-        return Head::Malformed;
+        return Err(HeadFault::Malformed);
     }
-    let Field::Number(n) = decimal::field_at(line, 1, 4) else {
-        return Head::Malformed;
-    };
-    let Field::Number(m) = decimal::field_at(line, 5, 4) else {
-        return Head::Malformed;
-    };
-    let Field::Number(a) = decimal::field_at(line, 9, 4) else {
-        return Head::Malformed;
-    };
-    let Field::Number(limit) = decimal::field_at(line, 13, 4) else {
-        return Head::Malformed;
-    };
-    counts_of(most, n, m, a, limit)
+    let bookings = decimal::field_at(line, 1, 4)?;
+    let links = decimal::field_at(line, 5, 4)?;
+    let ways = decimal::field_at(line, 9, 4)?;
+    let limit = decimal::field_at(line, 13, 4)?;
+    counts_of(
+        most,
+        Counts {
+            bookings,
+            links,
+            ways,
+            limit,
+        },
+    )
 }
 
-// Reads the line of booking number x.
-pub fn read_booking(line: &[u8], x: usize) -> Booking
+// Reads the line of booking number x: the letter of its kind and the number of its desk.
+pub fn read_booking(line: &[u8], x: usize) -> Result<(u8, u8), LineFault>
     ensures { result ≡ booking_of line.now x }
 {
     if !is_framed(line, b'B', BOOKING_BYTES) {
-        return Booking::Malformed;
+        return Err(LineFault::Malformed);
     }
-    let Field::Number(y) = decimal::field_at(line, 1, 4) else {
-        return Booking::Malformed;
-    };
-    if line[5] != b' ' {
-        return Booking::Malformed;
+    let number = decimal::field_at(line, 1, 4)?;
+    let kind = line[6];
+    if line[5] != b' ' || !plan::known_kind(kind) {
+        return Err(LineFault::Malformed);
     }
-    let k = line[6];
-    if !plan::known_kind(k) {
-        return Booking::Malformed;
+    let desk = decimal::field_at(line, 7, 4)?;
+    if number != x || !plan::known_desk(desk) {
+        return Err(LineFault::OutOfSequence);
     }
-    let Field::Number(d) = decimal::field_at(line, 7, 4) else {
-        return Booking::Malformed;
-    };
-    if y != x {
-        return Booking::OutOfSequence;
-    }
-    if !plan::known_desk(d) {
-        return Booking::OutOfSequence;
-    }
-    Booking::Entry(k, d as u8)
+    Ok((kind, desk as u8))
 }
 
-// Reads a link's line in a plan of n bookings, after the link from last_from to last_to.
-pub fn read_link(line: &[u8], n: usize, last_from: usize, last_to: usize) -> Link
+// Reads a link's line in a plan of n bookings, after the last link: its two bookings by number.
+// A pair of bytes and no `Link`: the definition `link_of` gives what the lists of links hold.
+pub fn read_link(line: &[u8], n: usize, last: Link) -> Result<(u8, u8), LineFault>
     requires { n ≤ most_bookings }
-    ensures { result ≡ link_of line.now n last_from last_to }
+    ensures { result ≡ link_of line.now n last.from last.to }
 {
     if !is_framed(line, b'L', LINK_BYTES) {
-        return Link::Malformed;
+        return Err(LineFault::Malformed);
     }
-    let Field::Number(u) = decimal::field_at(line, 1, 4) else {
-        return Link::Malformed;
-    };
-    let Field::Number(v) = decimal::field_at(line, 5, 4) else {
-        return Link::Malformed;
-    };
-    if !plan::in_sequence(n, last_from, last_to, u, v) {
-        return Link::OutOfSequence;
+    let from = decimal::field_at(line, 1, 4)?;
+    let to = decimal::field_at(line, 5, 4)?;
+    if !plan::in_sequence(n, last, Link { from, to }) {
+        return Err(LineFault::OutOfSequence);
     }
-    Link::Pair(u as u8, v as u8)
+    Ok((from as u8, to as u8))
 }
 
 // Reads the lines of the bookings 1 to n, which start at at.
@@ -176,73 +209,54 @@ pub fn read_bookings(s: &[u8], at: usize, n: usize) -> Bookings
 {
     let mut kind = [0u8; 64];
     let mut desk = [0u8; 64];
-    let mut i = 0;
-    while i < n {
+    // by index: it names a booking's line, and its place in both arrays
+    for i in 0..n {
         let line = decimal::part(s, at + BOOKING_BYTES * i, BOOKING_BYTES);
         match read_booking(line, i + 1) {
-            Booking::Entry(k, d) => {
+            Ok((k, d)) => {
                 kind[i] = k;
                 desk[i] = d;
             }
-            Booking::Malformed => {
+            Err(fault) => {
                 return Bookings {
-                    judged: Judged::Form(i + 2),
-                    kind,
-                    desk,
-                };
-            }
-            Booking::OutOfSequence => {
-                return Bookings {
-                    judged: Judged::Sequence(i + 2),
+                    judged: Err(fault.on(i + 2)),
                     kind,
                     desk,
                 };
             }
         }
-        i += 1;
     }
     Bookings {
-        judged: Judged::Fine,
+        judged: Ok(()),
         kind,
         desk,
     }
 }
 
-// Reads the lines of m links, which start at at, in a plan of n bookings, into two lent arrays that come empty: links handed on by
+// Reads the lines of m links, which start at at, in a plan of n bookings, into lent links that come empty: links handed on by
 // value would be copied at each step on their way.
-pub fn read_links(
-    s: &[u8],
-    at: usize,
-    n: usize,
-    m: usize,
-    from: &mut [u8; 512],
-    to: &mut [u8; 512],
-) -> Judged
-    requires { (n ≤ most_bookings) × (m ≤ most_links) × (at < 65536) × (from.old ≡ no_links) × (to.old ≡ no_links) }
+pub fn read_links(s: &[u8], at: usize, n: usize, m: usize, links: &mut Links) -> Result<(), Fault>
+    requires { (n ≤ most_bookings) × (m ≤ most_links) × (at < 65536) × (links.old ≡ empty_links) }
     ensures told { result ≡ (links_of n m 0 (drop at s.now) 0 0 no_links no_links).judged }
-    ensures left { (from.new ≡ (links_of n m 0 (drop at s.now) 0 0 no_links no_links).from)
-        × (to.new ≡ (links_of n m 0 (drop at s.now) 0 0 no_links no_links).to) }
+    ensures left { (links.new.from ≡ (links_of n m 0 (drop at s.now) 0 0 no_links no_links).from)
+        × (links.new.to ≡ (links_of n m 0 (drop at s.now) 0 0 no_links no_links).to) }
 {
-    let mut last_from = 0;
-    let mut last_to = 0;
-    let mut i = 0;
-    while i < m {
+    let mut last = Link::default();
+    // by index: it names a link's line, and its place in both arrays
+    for i in 0..m {
         let line = decimal::part(s, at + LINK_BYTES * i, LINK_BYTES);
-        match read_link(line, n, last_from, last_to) {
-            Link::Pair(u, v) => {
-                from[i] = u;
-                to[i] = v;
-                last_from = u as usize;
-                last_to = v as usize;
+        match read_link(line, n, last) {
+            Ok((u, v)) => {
+                links.from[i] = u;
+                links.to[i] = v;
+                last = Link {
+                    from: u as usize,
+                    to: v as usize,
+                };
             }
-            Link::Malformed => {
-                return Judged::Form(n + 2 + i);
-            }
-            Link::OutOfSequence => {
-                return Judged::Sequence(n + 2 + i);
-            }
+            // no `map_err` with a `?`: its closure needs a clause of its own for the proof, and is longer than these arms
+            Err(fault) => return Err(fault.on(n + 2 + i)),
         }
-        i += 1;
     }
-    Judged::Fine
+    Ok(())
 }

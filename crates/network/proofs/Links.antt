@@ -70,13 +70,6 @@ module _ (us vs : List ℕ) where
       empty-table (direct_at us vs m) n (λ v h l.
       sym (gather-is (linked us vs m v) 64 0 (omega arith) (λ u k. member-zero u ∙ sym (any-o (joins us vs v u) m (λ i j p. clash (joins us vs v u i) p (elsewhere i v u (λ q. omega (arith, e.to i j))))))))
 
-  pub ends-few : (n m : ℕ) → n ≤ 64 → Ends n us vs m → Ends 64 us vs m
-  ends-few n m h e = record {
-    few = e.few;
-    from = λ i l. ((e.from i l).0, omega (arith, (e.from i l).1));
-    to = λ i l. ((e.to i l).0, omega (arith, (e.to i l).1));
-  }
-
 pub network-is : (p : Plan) (d b t : List ℕ) (f e : ℕ) → d ≡ direct_of p.from p.to p.m → b ≡ closure_of d
     → f ≡ gather (of_kind is_firm p.kind) p.n → e ≡ gather (of_kind is_exposed p.kind) p.n → t ≡ desks_of p.desk p.n
     → ◌≡◌ {A = Network} (record { n = p.n; a = p.a; way = p.way; before = b; firm = f; exposed = e; desk = t; limit = p.limit }) (network_of p)

@@ -1,16 +1,18 @@
 // A plan as the rules look at it, its links closed to chains.
 #![tactic(auto)]
 
-ghost use Rattle.std.specs.Prelude.{◌≡◌, ◌≤◌};
+ghost use Rattle.std.specs.Prelude.{◌≡◌, ◌≤◌, cond};
+ghost use Rattle.std.specs.Int.Bits.{bit_or};
 ghost use Rattle.sets.specs.Sets.{gather};
 ghost use Rattle.plan.specs.Outline.{plan_of};
-ghost use Rattle.network.specs.FromPlan.{one_of, is_firm, is_exposed, of_kind, direct_of, desks_of, network_of, Ends, Seated};
+ghost use Rattle.network.specs.FromPlan.{is_firm, is_exposed, of_kind, direct_of, desks_of, network_of, Ends, Seated};
 
-use plan::Outline;
+use plan::{Links, Outline};
 
 // A plan as the rules see it. Booking number b is index b - 1 and bit b - 1 of every set; way[k] is way number k + 1.
 // before[v] has all bookings that precede v, by one link or by a chain of links. desk[d] has the bookings of desk number d + 1; limit is how
-// many matters a desk may have open.
+// many matters a desk may have open. The counts stand beside arrays of full size, as in a plan: the definitions speak of each list, and a
+// network is a fixed piece of memory.
 #[derive(Clone, Copy)]
 pub struct Network {
     pub n: usize,
@@ -23,6 +25,14 @@ pub struct Network {
     pub limit: usize,
 }
 
+// A network within the limits of every plan.
+#[derive(Clone, Copy)]
+pub struct Chart {
+    pub network: Network,
+    ghost few_bookings: { network.n ≤ 64 },
+    ghost few_ways: { network.a ≤ 16 },
+}
+
 // The bookings that stay once they are held, and those that can be refused for good.
 #[derive(Clone, Copy)]
 struct Kinds {
@@ -30,82 +40,88 @@ struct Kinds {
     exposed: u64,
 }
 
-// Whether k is one of two kinds.
-fn is_either(k: u8, x: u8, y: u8) -> bool
-    ensures { result ≡ one_of x y k }
-{
-    if k == x {
-        return true;
+impl Kinds {
+    // With the bookings b, which are of kind k: C is exposed, R is firm, P is both, and D neither.
+    #[tactic(auto, unfolding(crate::specs::FromPlan::one_of))]
+    fn with(self, k: u8, b: u64) -> Kinds
+        ensures firm { result.firm ≡ cond (is_firm k) (bit_or self.firm b) self.firm }
+        ensures exposed { result.exposed ≡ cond (is_exposed k) (bit_or self.exposed b) self.exposed }
+    {
+        let Kinds { firm, exposed } = self;
+        match k {
+            b'C' => Kinds {
+                firm,
+                exposed: exposed | b,
+            },
+            b'P' => Kinds {
+                firm: firm | b,
+                exposed: exposed | b,
+            },
+            b'R' => Kinds {
+                firm: firm | b,
+                exposed,
+            },
+            _ => self,
+        }
     }
-    k == y
 }
 
-// The bookings below n by their kinds: firm are P and R, exposed C and P, and D is neither.
+// The first n bookings by their kinds.
 fn kinds_of(kind: &[u8; 64], n: usize) -> Kinds
     requires { n ≤ 64 }
     ensures { (result.firm ≡ gather (of_kind is_firm kind.now) n) × (result.exposed ≡ gather (of_kind is_exposed kind.now) n) }
 {
-    let mut firm: u64 = 0;
-    let mut exposed: u64 = 0;
-    for b in 0..n {
-        let this = sets::bit(b);
-        if is_either(kind[b], b'P', b'R') {
-            firm = firm | this;
-        }
-        if is_either(kind[b], b'C', b'P') {
-            exposed = exposed | this;
-        }
+    let mut kinds = Kinds {
+        firm: 0,
+        exposed: 0,
+    };
+    for (b, kind) in kind[..n].iter().enumerate() {
+        kinds = kinds.with(*kind, sets::bit(b));
     }
-    Kinds { firm, exposed }
+    kinds
 }
 
 // The direct predecessors of each booking, by the first m links.
-fn direct(from: &[u8; 512], to: &[u8; 512], m: usize) -> [u64; 64]
-    requires { Ends 64 from.now to.now m }
-    ensures { result ≡ direct_of from.now to.now m }
+fn direct(links: &Links, m: usize) -> [u64; 64]
+    requires { Ends 64 links.now.from links.now.to m }
+    ensures { result ≡ direct_of links.now.from links.now.to m }
 {
     let mut d = [0u64; 64];
+    // by index: it names an end of the same link in each array, as the definition does
     for i in 0..m {
-        let u = from[i] as usize - 1;
-        let v = to[i] as usize - 1;
-        d[v] = d[v] | sets::bit(u);
+        d[links.to[i] as usize - 1] |= sets::bit(links.from[i] as usize - 1);
     }
     d
 }
 
-// The bookings below n by their desks.
+// The first n bookings by their desks.
 fn desks_of(desk: &[u8; 64], n: usize) -> [u64; 8]
     requires { (n ≤ 64) × Seated n desk.now }
     ensures { result ≡ desks_of desk.now n }
 {
     let mut at = [0u64; 8];
-    for b in 0..n {
-        let d = desk[b] as usize - 1;
-        at[d] = at[d] | sets::bit(b);
+    for (b, desk) in desk[..n].iter().enumerate() {
+        at[*desk as usize - 1] |= sets::bit(b);
     }
     at
 }
 
 // What the rules look at in a plan, whose links stand beside it.
-pub fn network_of(o: Outline, from: &[u8; 512], to: &[u8; 512]) -> Network
-    requires { (o.n ≤ 64) × Ends o.n from.now to.now o.m × Seated o.n o.desk }
-    ensures { result ≡ network_of (plan_of o from.now to.now) }
+pub fn network_of(o: &Outline, links: &Links) -> Network
+    requires { (o.now.n ≤ 64) × Ends o.now.n links.now.from links.now.to o.now.m × Seated o.now.n o.now.desk }
+    ensures { result ≡ network_of (plan_of o.now links.now.from links.now.to) }
 {
-    let kind = o.kind;
-    let way = o.way;
-    let links = direct(from, to, o.m);
-    let before = precedence::closure(links, o.n);
-    let kinds = kinds_of(&kind, o.n);
-    let desks = o.desk;
-    let desk = desks_of(&desks, o.n);
+    let Kinds { firm, exposed } = kinds_of(&o.kind, o.n);
+    let linked = direct(links, o.m);
+    let before = precedence::closure(linked, o.n);
     Network {
         n: o.n,
         a: o.a,
-        way,
+        way: o.way,
         before,
-        firm: kinds.firm,
-        exposed: kinds.exposed,
-        desk,
+        firm,
+        exposed,
+        desk: desks_of(&o.desk, o.n),
         limit: o.limit,
     }
 }

@@ -7,6 +7,7 @@ ghost use Rattle.partner.specs.Partner.{theirs, partner_call};
 use plan::Limits;
 
 // What the partner's gateway takes.
+#[tactic(auto, unfolding(crate::specs::Partner::theirs))]
 fn theirs() -> Limits
     ensures { result ≡ theirs }
 {
@@ -21,6 +22,5 @@ fn theirs() -> Limits
 pub fn partner_check(sheet: &[u8]) -> u32
     ensures { result ≡ partner_call sheet.now }
 {
-    let c = calls::judge_within(sheet, theirs());
-    c.bits
+    calls::check_within(sheet, theirs())
 }

@@ -1,4 +1,5 @@
-// The function that the partner range's archive exports. It calls the function of its name in crate partner and states its clause again.
+// The function that the partner range's archive exports. It calls the function of its name in crate partner and states its clause again:
+// a crate is a library or an archive and never both.
 #![tactic(auto)]
 
 ghost use Rattle.std.specs.Prelude.{◌≡◌};

@@ -105,7 +105,6 @@ module _ (g : Network) (few : g.n ≤ 64) (r : Run) (past : Past g r) (w : ℕ) 
 
   -- the booking of a true reason is one of the plan
   booked : (y : Reason) → Because g r w y → booking_of y < g.n
-  unfolding booking_of
   booked y (by_loss h l) = inside g r past _ (omega (arith, h.1))
   booked y (by_lack n h l) = inside g r past _ (omega (arith, h.0))
 

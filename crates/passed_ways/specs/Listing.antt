@@ -33,11 +33,11 @@ abbrev pub line_bytes : ℕ
 line_bytes = 11
 
 -- N or H
-unfoldable pub letter_of : Reason → ℕ
+abbrev pub letter_of : Reason → ℕ
 letter_of (Lost b) = 78
 letter_of (Lacks b) = 72
 
-unfoldable pub booking_of : Reason → ℕ
+abbrev pub booking_of : Reason → ℕ
 booking_of (Lost b) = b
 booking_of (Lacks b) = b
 

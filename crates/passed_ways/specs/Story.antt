@@ -1,8 +1,7 @@
 -- What a listing tells of a state: each line is true, no way that was passed over is absent, and no other way is there.
 -- Assumes nothing.
-use Rattle.std.specs.Prelude.{ℕ, suc, ◌*◌, ◌≤◌, ◌<◌, ◌≡◌, ◌⊎◌, true, false, List, length, get_or, take, drop}
+use Rattle.std.specs.Prelude.{ℕ, suc, ◌*◌, ◌≤◌, ◌<◌, ◌≡◌, ◌⊎◌, true, false, Ok, List, length, get_or, take, drop}
 use Rattle.decimal.specs.Decimal.{field_at}
-use Rattle.decimal.specs.declared.Field.TheVariants.{Number}
 use Rattle.network.specs.declared.Network.{Network}
 use Rattle.network.specs.Network.{in_way, firm}
 use Rattle.standing.specs.Standing.{held, lost}
@@ -40,9 +39,9 @@ module _ (g : Network) (r : Run) where
     pub true_of : Because w reason
     pub booked : booking_of reason < g.n
     pub opens : get_or line 0 0 ≡ 86
-    pub way : field_at 4 1 line ≡ Number w
+    pub way : field_at 4 1 line ≡ Ok w
     pub letter : get_or line 5 0 ≡ letter_of reason
-    pub booking : field_at 4 6 line ≡ Number (suc (booking_of reason))
+    pub booking : field_at 4 6 line ≡ Ok (suc (booking_of reason))
     pub closes : get_or line 10 0 ≡ 10
 
   -- THE STORY: the text is whole lines; line i is of way i + 1 and true; every way before the current one has its line, and no other has one

@@ -2,12 +2,12 @@
 -- Assumes nothing.
 use mathlib.Core.Path.{◌≡◌}
 use mathlib.Core.Logic.{◌⊎◌, inl, inr}
-use mathlib.Core.Bool.{Bool, true, false, not, ◌&&◌}
+use mathlib.Core.Bool.{true, ◌&&◌}
 use Prim.Native.Nat.{ℕ, ◌≤◌, ◌<◌}
 use native.Mathlib.Omega.{arith}
 use lib.Dec.{eqb, leb, ltb}
 use borrow.Author.Tests.{leb-true, le-leb, eqb-true, eq-eqb, ltb-true, lt-ltb}
-use Rattle.bounded.proofs.Bools.{and_l, and_r, ◌&◌, or_cases, or_l, or_r, went}
+use Rattle.bounded.proofs.Bools.{and_l, and_r, ◌&◌, or_cases, or_l, or_r}
 use Rattle.plan.specs.Limits.{most_bookings, most_links, most_ways, most_matters, most_desks, C, P, R, D, is_kind, is_desk, within, ours, counted, limits, rises, in_sequence}
 use Rattle.plan.specs.declared.Limits.{Limits}
 
@@ -24,13 +24,6 @@ within-hi lo x hi e = leb-true x hi (and_r (leb lo x) (leb x hi) e)
 pub within-i : (lo x hi : ℕ) → lo ≤ x → x ≤ hi → within lo x hi ≡ true
 unfolding within
 within-i lo x hi p q = le-leb lo x p & le-leb x hi q
-
--- past `if !is_within(lo, x, hi) { return .. }`
-pub within-lo-by : (lo x hi : ℕ) (b : Bool) → b ≡ within lo x hi → not b ≡ false → lo ≤ x
-within-lo-by lo x hi b e q = within-lo lo x hi (went e q)
-
-pub within-hi-by : (lo x hi : ℕ) (b : Bool) → b ≡ within lo x hi → not b ≡ false → x ≤ hi
-within-hi-by lo x hi b e q = within-hi lo x hi (went e q)
 
 -- ---- the counts
 
@@ -87,10 +80,6 @@ limited n m a limit e =
       some-matter = within-lo 1 limit most_matters o;
       matters = within-hi 1 limit most_matters o;
     }
-
--- past `if !in_limits(n, m, a, limit) { return .. }`
-pub limited-by : (n m a limit : ℕ) (x : Bool) → x ≡ limits n m a limit → not x ≡ false → Limited n m a limit
-limited-by n m a limit x e q = limited n m a limit (went e q)
 
 pub limited-i : (n m a limit : ℕ) → Limited n m a limit → limits n m a limit ≡ true
 unfolding limits ours
@@ -153,7 +142,3 @@ sequence-i n lastFrom last_to u v h k r =
       | inl l ↦ or_l (ltb lastFrom u) _ (lt-ltb _ _ l)
       | inr l ↦ or_r (ltb lastFrom u) _ (eq-eqb _ _ l.0 & lt-ltb _ _ l.1)
     ]
-
--- past `if !in_sequence(n, lastFrom, last_to, u, v) { return .. }`
-pub sequenced-by : (n lastFrom last_to u v : ℕ) (k : Bool) → k ≡ in_sequence n lastFrom last_to u v → not k ≡ false → Sequenced n lastFrom last_to u v
-sequenced-by n lastFrom last_to u v k e q = sequenced n lastFrom last_to u v (went e q)

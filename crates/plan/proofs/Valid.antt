@@ -17,10 +17,11 @@ use Rattle.sets.proofs.Gather.{size-le}
 use Rattle.plan.specs.Limits.{most_desks, is_kind, is_desk, ours, counted, limits}
 use Rattle.plan.specs.Record.{booking_at, link_at, count_at, within_at, counts_fit, entries_fit, record_of}
 use Rattle.plan.specs.declared.Plan.{Plan}
-use Rattle.plan.specs.declared.Judgement.TheVariants.{Fine, Count, Sequence}
-use Rattle.plan.specs.declared.Judgement.{Judgement}
+use Rattle.std.specs.Prelude.{⊤, Result, Ok, Err}
+use Rattle.plan.specs.declared.RecordFault.TheVariants.{Count, Sequence}
+use Rattle.plan.specs.declared.RecordFault.{RecordFault}
 use Rattle.plan.proofs.LimitLaws.{Limited, limited-i, within-lo, within-i, desk-known, Sequenced, sequenced, sequence-i}
-use Rattle.plan.proofs.RecordLaws.{fit-limited}
+use Rattle.plan.proofs.RecordLaws.{fit_limited}
 
 pub record Valid (p : Plan) : Type 0 where
   pub counts : Limited p.n p.m p.a p.limit
@@ -35,19 +36,19 @@ pub record Valid (p : Plan) : Type 0 where
 
 -- ---- from the test to the facts
 
-fine-counts : (p : Plan) → record_of p ≡ Fine → counts_fit p ≡ true
+fine-counts : (p : Plan) → record_of p ≡ Ok tt → counts_fit p ≡ true
 unfolding record_of
 fine-counts p = go (counts_fit p)
   where
-    go : (x : Bool) → cond x (cond (entries_fit p) Fine Sequence) Count ≡ Fine → x ≡ true
+    go : (x : Bool) → ◌≡◌ {A = Result ⊤ RecordFault} (cond x (cond (entries_fit p) (Ok tt) (Err Sequence)) (Err Count)) (Ok tt) → x ≡ true
     go true e = refl
     go false e = cc
 
-pub fine-entries : (p : Plan) → record_of p ≡ Fine → entries_fit p ≡ true
+pub fine-entries : (p : Plan) → record_of p ≡ Ok tt → entries_fit p ≡ true
 unfolding record_of
 fine-entries p = go (counts_fit p) (entries_fit p)
   where
-    go : (x y : Bool) → cond x (cond y Fine Sequence) Count ≡ Fine → y ≡ true
+    go : (x y : Bool) → ◌≡◌ {A = Result ⊤ RecordFault} (cond x (cond y (Ok tt) (Err Sequence)) (Err Count)) (Ok tt) → y ≡ true
     go true true e = refl
     go true false e = cc
     go false y e = clash true refl (cc)
@@ -79,7 +80,7 @@ module _ (p : Plan) (c : counts_fit p ≡ true) (e : entries_fit p ≡ true) whe
   facts : Valid p
   unfolding booking_at within_at count_at
   facts = record {
-    counts = fit-limited p c;
+    counts = fit_limited p c;
     kinds = λ b h. and_l (is_kind (get_or p.kind b 0)) _ (booking-fits p e b h);
     desks = λ b h. desk-known (get_or p.desk b 0) (and_r (is_kind (get_or p.kind b 0)) _ (booking-fits p e b h));
     starts = λ i h. (link-fact i h).start;
@@ -89,16 +90,16 @@ module _ (p : Plan) (c : counts_fit p ≡ true) (e : entries_fit p ≡ true) whe
     taken = λ k h. within-lo 1 (size_of (get_or p.way k 0)) p.n (count_fits k h);
   }
 
-pub valid : (p : Plan) → record_of p ≡ Fine → Valid p
+pub valid : (p : Plan) → record_of p ≡ Ok tt → Valid p
 valid p e = facts p (fine-counts p e) (fine-entries p e)
 
 -- so we take it
-pub fine-counted : (p : Plan) → record_of p ≡ Fine → counted ours p.n p.m p.a ≡ true
+pub fine-counted : (p : Plan) → record_of p ≡ Ok tt → counted ours p.n p.m p.a ≡ true
 unfolding limits
 fine-counted p e = let l = (valid p e).counts in and_l (counted ours p.n p.m p.a) _ (limited-i p.n p.m p.a p.limit l)
 
 -- the counts of a record that was judged fine
-pub fine-limited : (p : Plan) (r : Judgement) → r ≡ record_of p → r ≡ Fine → Limited p.n p.m p.a p.limit
+pub fine-limited : (p : Plan) (r : Result ⊤ RecordFault) → r ≡ record_of p → r ≡ Ok tt → Limited p.n p.m p.a p.limit
 fine-limited p r e g = (valid p (sym e ∙ g)).counts
 
 -- ---- and back
@@ -120,7 +121,7 @@ module _ (p : Plan) (l : Limited p.n p.m p.a p.limit) (bookings : (b : ℕ) → 
       & all-i (link_at p.n p.from p.to) p.m links
       & all-i (within_at p.n p.way) p.a (λ k h. lt-ltb (get_or p.way k 0) (2 ^ p.n) (sets k h))
 
-  pub fine-i : record_of p ≡ Fine
+  pub fine-i : record_of p ≡ Ok tt
   unfolding record_of
   fine-i = rw (counts-fit, entries_fit_lem)
 
@@ -131,7 +132,7 @@ module _ (p : Plan) (v : Valid p) where
   links-fit (suc i) h = sequence-i p.n _ _ _ _ (v.starts (suc i) h) (v.ends (suc i) h) (rw (add-one i) at (v.rising i (omega arith)))
 
   -- facts that hold of a record make it fine
-  pub valid-fine : record_of p ≡ Fine
+  pub valid-fine : record_of p ≡ Ok tt
   unfolding booking_at is_desk
   valid-fine =
       fine-i p v.counts (λ b h. v.kinds b h & within-i 1 (get_or p.desk b 0) most_desks (v.desks b h).0 (v.desks b h).1) links-fit v.sets v.taken

@@ -1,12 +1,12 @@
 -- What is wrong with a plan record: every fault in a count comes before every fault in an entry, and entries past the counts are not looked at.
 -- Assumes nothing.
-use Rattle.std.specs.Prelude.{Bool, ◌&&◌, cond, List, ◌∷◌, ℕ, ◌^◌, ltb, get_or}
+use Rattle.std.specs.Prelude.{Bool, ◌&&◌, cond, List, ◌∷◌, ℕ, ◌^◌, ltb, get_or, ⊤, Result, Ok, Err}
 use Rattle.bounded.specs.Bounded.{all}
 use Rattle.sets.specs.Sets.{size_of}
 use Rattle.plan.specs.Limits.{is_kind, is_desk, within, limits, in_sequence}
 use Rattle.plan.specs.declared.Plan.{Plan}
-use Rattle.plan.specs.declared.Judgement.{Judgement}
-use Rattle.plan.specs.declared.Judgement.TheVariants.{Fine, Count, Sequence}
+use Rattle.plan.specs.declared.RecordFault.{RecordFault}
+use Rattle.plan.specs.declared.RecordFault.TheVariants.{Count, Sequence}
 
 -- booking b + 1 has a kind and a desk
 unfoldable pub booking_at : List ℕ → List ℕ → ℕ → Bool
@@ -33,5 +33,5 @@ unfoldable pub entries_fit : Plan → Bool
 entries_fit p =
     all (booking_at p.kind p.desk) p.n && (all (link_at p.n p.from p.to) p.m && all (within_at p.n p.way) p.a)
 
-unfoldable pub record_of : Plan → Judgement
-record_of p = cond (counts_fit p) (cond (entries_fit p) Fine Sequence) Count
+unfoldable pub record_of : Plan → Result ⊤ RecordFault
+record_of p = cond (counts_fit p) (cond (entries_fit p) (Ok tt) (Err Sequence)) (Err Count)

@@ -32,6 +32,7 @@ pub fn through(p: [u64; 64], k: usize, n: usize) -> [u64; 64]
     let c = joined(joined(p[k + 2], a, k), b, k + 1);
     let d = joined(joined(joined(p[k + 3], a, k), b, k + 1), c, k + 2);
     let mut r = [0u64; 64];
+    // by index: the sets go in and out by value (docs/DECISIONS.md), and v names one in each array
     for v in 0..n {
         r[v] = joined_four(p[v], a, b, c, d, k);
     }
@@ -44,13 +45,11 @@ pub fn closure(d: [u64; 64], n: usize) -> [u64; 64]
     ensures { result ≡ closure_of d }
 {
     let mut p = d;
-    let mut k = 0;
-    while k < n {
+    for k in (0..n).step_by(4) {
         // a step changes nothing where nothing comes before the four
         if p[k] | p[k + 1] | p[k + 2] | p[k + 3] != 0 {
             p = through(p, k, n);
         }
-        k += 4;
     }
     p
 }

@@ -21,10 +21,9 @@ use Rattle.standing.specs.Ways.{precedes_some, ready, lost_in, live_at, first_li
 use Rattle.standing.specs.declared.Standing.{Standing}
 use Rattle.run.specs.State.{code, is, standing, here, put}
 use Rattle.run.specs.Orders.{passed, may_return, to_return, may_request, to_request, unchanged, ending, next}
-use Rattle.run.specs.Replies.{Y, N, G, K, settle, after_no, fits, misfits, reply}
+use Rattle.run.specs.Replies.{Y, N, G, K, settle, after_no, fits, misfits, reply, Replied}
 use Rattle.run.specs.declared.Run.{Run}
 use Rattle.run.specs.declared.Ordered.{Ordered}
-use Rattle.run.specs.declared.Replied.{Replied}
 use Rattle.run.specs.declared.Order.{Order}
 use Rattle.run.specs.declared.Order.TheVariants.{Request, Return, Wait, Flown, Off}
 use Rattle.run.proofs.Facts.{is-e, coded-e, no-matter}

@@ -2,5 +2,6 @@
 pub mod State
 pub mod Orders
 pub mod Replies
+pub mod Codes
 pub mod Sound
 pub mod Bytes

@@ -1,6 +1,6 @@
 -- The replies: Y or N fits a requested booking, G or K a returning one.
 -- Assumes nothing.
-use Rattle.std.specs.Prelude.{Bool, true, false, not, ◌&&◌, cond, ℕ, eqb, ltb}
+use Rattle.std.specs.Prelude.{Bool, true, false, not, ◌&&◌, cond, ℕ, eqb, ltb, Option, Some, None}
 use Rattle.sets.specs.Sets.{some}
 use Rattle.network.specs.Network.{way_of, exposed}
 use Rattle.network.specs.declared.Network.{Network}
@@ -9,7 +9,15 @@ use Rattle.standing.specs.Ways.{lost_in, first_live}
 use Rattle.standing.specs.declared.Standing.{Standing}
 use Rattle.run.specs.State.{is, standing, here, put, turn}
 use Rattle.run.specs.declared.Run.{Run}
-use Rattle.run.specs.declared.Replied.{Replied}
+
+-- whether a reply fits, and the state after it
+pub record Replied : Type 0 where
+  pub taken : Bool
+  pub run : Run
+
+-- what the code gives of it: the state after a reply that fits, and none where it does not
+abbrev pub kept_of : Replied → Option Run
+kept_of t = cond t.taken (Some t.run) None
 
 -- the letters: confirmed, refused, returned, kept
 abbrev pub Y : ℕ

@@ -1,8 +1,8 @@
 -- What the code's operations on sets are, in members.
 -- Assumes nothing.
 use mathlib.Core.Path.{◌≡◌, refl, sym, ap, ◌∙◌}
-use mathlib.Core.Logic.{⊎_elim}
-use mathlib.Core.Bool.{Bool, true, false, not, ◌&&◌, ◌||◌}
+use mathlib.Core.Logic.{⊎_elim, inl, inr}
+use mathlib.Core.Bool.{Bool, true, false, not, ◌&&◌, ◌||◌, cond}
 use Prim.Native.Nat.{ℕ, zero, suc, ◌+◌, ◌/◌, ◌%◌, ◌^◌, ◌<◌, suc-le-suc}
 use native.Mathlib.Nat.{mod-lt, lt_of_le_of_lt, not-suc-le-zero, le_of_suc-le-suc}
 use native.Mathlib.Omega.{arith}
@@ -12,12 +12,12 @@ use lib.Pow.{pow-lt}
 use lib.Bits.{bit_and, bit_or, bit_xor, and_le_l, or_lt, xor_lt}
 use lib.Count.{count_trailing_zeros, under}
 use Rattle.bounded.specs.Bounded.{all, first}
-use Rattle.bounded.proofs.Bools.{same_test, binary, imp-i, imp-e, and_l, and_r, ◌&◌}
+use Rattle.bounded.proofs.Bools.{which, same_test, binary, imp-i, imp-e, and_l, and_r, ◌&◌}
 use Rattle.bounded.proofs.Tests.{all-i, all-e}
 use Rattle.bounded.proofs.First.{Least, first-is}
 use Rattle.sets.specs.Sets.{alone, member, gather, inserted, insert, only, without, kept, subset_of, apart, disjoint_from}
 use Rattle.sets.proofs.Members.{two_pos, unlike, member-and, member-or, member-xor, member-zero, member-power, member-suc, low_digit, same_set}
-use Rattle.sets.proofs.Gather.{gather-is, gather-lt, gather-put, member-gather}
+use Rattle.sets.proofs.Gather.{gather-is, gather-lt, gather-put, gather-skip, member-gather}
 
 -- `s | 2 ^ i` puts i in
 pub put-bit : (s i : ℕ) → i < 64 → s < 2 ^ 64 → bit_or s (2 ^ i) ≡ insert s i
@@ -32,6 +32,13 @@ put_alone s i t e h hs = ap (bit_or s) e ∙ put-bit s i h hs
 
 pub gather-alone : (f : ℕ → Bool) (n t : ℕ) → t ≡ alone n → f n ≡ true → bit_or (gather f n) t ≡ gather f (n + 1)
 gather-alone f n t e p = ap (bit_or (gather f n)) e ∙ gather-put f n p
+
+-- whether n passes or not
+pub gather-next : (f : ℕ → Bool) (n b s t : ℕ) → b ≡ alone n → s ≡ gather f n → t ≡ cond (f n) (bit_or s b) s → t ≡ gather f (n + 1)
+gather-next f n b s t eb es et = elim (which (f n)) [
+  | inl e ↦ rw (et, e, es) (gather-alone f n b eb e)
+  | inr e ↦ rw (et, e, es) (gather-skip f n e)
+]
 
 pub insert-fits : (s i : ℕ) → insert s i < 2 ^ 64
 unfolding insert

@@ -9,12 +9,13 @@ use native.Mathlib.Omega.{arith}
 use borrow.Author.Tests.{eqb-true, eqb-false, eq-eqb, ne_eqb}
 use lib.Dec.{eqb}
 use lib.Bits.{bit_and, and_le_l, and_le_r}
-use Rattle.bounded.specs.Bounded.{imp, any, all, first}
-use Rattle.bounded.proofs.Bools.{which, clash, off, same?, split?, same_test, imp-e, imp-i, and_l, and_r, ◌&◌}
+use Rattle.bounded.specs.Bounded.{imp, one, any, all, first}
+use Rattle.bounded.proofs.Bools.{which, clash, off, same?, split?, same_test, imp-e, imp-i, and_l, and_r, and-true, ◌&◌}
 use Rattle.bounded.proofs.Tests.{all-i, all-e}
 use Rattle.bounded.proofs.First.{first-least}
 use Rattle.bounded.proofs.Loops.{any-over, first-at, first-over}
-use Rattle.sets.specs.Sets.{alone, member, gather, only, without, but_lowest}
+use Rattle.bounded.proofs.Sums.{count-sum, sum_one}
+use Rattle.sets.specs.Sets.{alone, member, gather, only, without, but_lowest, size_of}
 use Rattle.sets.proofs.Members.{member-and, member-zero, member-power, member-past, member-suc, low_digit}
 use Rattle.sets.proofs.Gather.{gather-is, gather-lt, member-gather}
 use Rattle.sets.proofs.Facts.{gather-e, gather-i, empty-n, nonzero-i, some-on, some-member, without-e, without-i}
@@ -126,6 +127,22 @@ but-lowest-i s i fits e =
 pub but-lowest-at : (s i : ℕ) → i < 64 → member (but_lowest s) i ≡ member s i && not (eqb i (first (member s) 64))
 unfolding but_lowest without only
 but-lowest-at s i l = let m = first (member s) 64 in member-gather (only s (alone m)) 64 i l ∙ ap (λ (b : Bool). member s i && not b) (member-power m i)
+
+-- there is one fewer
+pub but-lowest-size : (s : ℕ) → s < 2 ^ 64 → s ≢ 0 → size_of (but_lowest s) < size_of s
+unfolding size_of
+but-lowest-size s fits d =
+    let m = first (member s) 64 in
+    let lt : m < 64 = lowest-lt s fits d in
+    let f : ℕ → ℕ = λ i. one (member (but_lowest s) i) in
+    let g : ℕ → ℕ = λ i. one (member s i) in
+    let same : (i : ℕ) → i ≢ m → f i ≡ g i = λ i n. elim (split? i 64) [
+      | inl l ↦ ap one (but-lowest-at s i l ∙ rw (ne_eqb i m n) (and-true (member s i)))
+      | inr l ↦ ap one (member-past (but_lowest s) 64 i (but-lowest-fits s) l ∙ sym (member-past s 64 i fits l))
+    ] in
+    let fm : f m ≡ 0 = ap one (but-lowest-at s m lt) ∙ rw (eq-eqb m m refl, lowest-in s fits d) in
+    let gm : g m ≡ 1 = ap one (lowest-in s fits d) in
+    omega (arith, count-sum (member (but_lowest s)) 64, count-sum (member s) 64, sum_one f g 64 m lt same)
 
 -- ---- a test that every member passes
 

@@ -1,2 +1,3 @@
 -- The definitions of crate `sets`.
 pub mod Sets
+pub mod Rising

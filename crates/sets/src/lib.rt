@@ -4,7 +4,9 @@
 
 ghost use Rattle.std.specs.Prelude.{◌≡◌, ◌≤◌, ◌<◌};
 ghost use Rattle.bounded.specs.Bounded.{first};
+ghost use Rattle.std.specs.Iterator.{at_most};
 ghost use Rattle.sets.specs.Sets.{alone, member, all_below, without, but_lowest, subset_of, disjoint_from, size_of};
+ghost use Rattle.sets.specs.Rising.{GivesLowest};
 
 // The set of index i alone.
 pub fn bit(i: usize) -> u64
@@ -19,11 +21,7 @@ pub fn all_below(n: usize) -> u64
     requires { n ≤ 64 }
     ensures { result ≡ all_below n }
 {
-    if n < 64 {
-        bit(n) - 1
-    } else {
-        18446744073709551615
-    }
+    if n < 64 { bit(n) - 1 } else { u64::MAX }
 }
 
 // Whether index i is in the set s.
@@ -59,14 +57,14 @@ pub fn disjoint(a: u64, b: u64) -> bool
 pub fn size(s: u64) -> usize
     ensures { result ≡ size_of s }
 {
-    u64::count_ones(s) as usize
+    s.count_ones() as usize
 }
 
-// The lowest member of s, or 64 where it has none.
+// The lowest member of s, or 64 where it has none: the contract is the definition `first`, whose bound is 64 here.
 pub fn lowest(s: u64) -> usize
     ensures { result ≡ first (member s) 64 }
 {
-    u64::trailing_zeros(s) as usize
+    s.trailing_zeros() as usize
 }
 
 // The members of s but the lowest. In s - 1 it is cleared, and those below it are set, which s lacks.
@@ -75,4 +73,34 @@ pub fn but_lowest(s: u64) -> u64
     ensures { result ≡ but_lowest s }
 {
     s & (s - 1)
+}
+
+// The members of a set that are still to come, rising.
+#[derive(Drop)]
+pub struct Rising {
+    rest: u64,
+}
+
+// The members of s, the lowest first.
+pub fn members_of(s: u64) -> Rising
+    ensures { result.rest ≡ s }
+{
+    Rising { rest: s }
+}
+
+impl Iterator for Rising {
+    type Item = usize;
+
+    ghost next_gives = { GivesLowest };
+
+    ghost remaining = { λ s. at_most (size_of s.rest) };
+
+    fn next(&mut self) -> Option<usize> {
+        if self.rest == 0 {
+            return None;
+        }
+        let v = lowest(self.rest);
+        self.rest = but_lowest(self.rest);
+        Some(v)
+    }
 }

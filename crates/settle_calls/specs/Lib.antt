@@ -1,3 +1,4 @@
 -- The definitions of crate `settle_calls`.
 pub mod Settle
 pub mod Shown
+pub mod Refusals

@@ -2,7 +2,7 @@
 -- Assumes nothing.
 use Prim.Native.Nat.{ℕ, ◌≤◌}
 use mathlib.Core.Path.{◌≡◌, ap, ◌∙◌}
-use mathlib.Core.Logic.{inl, inr}
+use mathlib.Core.Logic.{◌≢◌, inl, inr}
 use mathlib.Core.List.{List}
 use native.Mathlib.Omega.{arith}
 use lib.ListN.{length, take}
@@ -24,10 +24,9 @@ settled-length s fees j = elim (which (settles s fees j)) [
   | inr e ↦ rw e (omega (arith, printed-length (settle_call s fees j longest_report)))
 ]
 
-module _ (s fees j d : List ℕ) (room : longest_report ≤ length d) (bits : ℕ) (e : bits ≡ settle_call s fees j (length d)) (k : ℕ) (ek : k ≡ kind_of bits)
-    (after : List ℕ) (f : after ≡ settle_leaves s fees j d) where
+module _ (s fees j d : List ℕ) (room : longest_report ≤ length d) (bits : ℕ) (e : bits ≡ settle_call s fees j (length d)) (after : List ℕ) (f : after ≡ settle_leaves s fees j d) where
   -- a refusal is printed in the buffer, which the call has left as it was
-  pub printed : k ≡ 0 → (n : ℕ) → n ≡ length (printed_text bits) → (out : List ℕ) → out ≡ sets after 0 (printed_text bits)
+  pub printed : kind_of bits ≡ 0 → (n : ℕ) → n ≡ length (printed_text bits) → (out : List ℕ) → out ≡ sets after 0 (printed_text bits)
       → (n ≡ length (settled_text s fees j)) × (out ≡ sets d 0 (settled_text s fees j))
   unfolding settled_text kind_of pack
   printed z n p out q = elim (which (settles s fees j)) [
@@ -38,7 +37,7 @@ module _ (s fees j d : List ℕ) (room : longest_report ≤ length d) (bits : �
   ]
 
   -- the report stands in the buffer, and the answer has its length
-  pub billed : (k ≡ 0 → ⊥) → (n : ℕ) → n ≡ place_of bits → (n ≡ length (settled_text s fees j)) × (after ≡ sets d 0 (settled_text s fees j))
+  pub billed : kind_of bits ≢ 0 → (n : ℕ) → n ≡ place_of bits → (n ≡ length (settled_text s fees j)) × (after ≡ sets d 0 (settled_text s fees j))
   unfolding settled_text kind_of place_of pack
   billed z n p = elim (which (settles s fees j)) [
     | inl t ↦

@@ -17,12 +17,11 @@ use Rattle.bounded.specs.Bounded.{sum}
 use Rattle.bounded.proofs.Bools.{clash}
 use Rattle.sets.specs.Sets.{member}
 use Rattle.plan.specs.Limits.{counted}
-use Rattle.plan.specs.Judging.{is_fine}
+use Rattle.std.specs.Prelude.{Result, Ok, Err}
+use Rattle.plan.specs.Judging.{Judged, is_fine}
 use Rattle.plan.specs.declared.Limits.{Limits}
 use Rattle.plan.specs.Record.{record_of}
-use Rattle.plan.specs.declared.Judged.{Judged}
-use Rattle.plan.specs.declared.Judged.TheVariants.{Fine, Form, Count, Oversize}
-use Rattle.plan.specs.declared.Judgement.TheVariants as R
+use Rattle.plan.specs.declared.Fault.TheVariants.{Form}
 use Rattle.plan.proofs.LimitLaws.{Counted, counted-e, Limited, limited}
 use Rattle.plan.proofs.Valid.{Valid, valid, fine-i}
 use Rattle.plan.proofs.RecordLaws.{fine-is}
@@ -30,18 +29,19 @@ use Rattle.lines.specs.Form.{head_bytes, booking_bytes, link_bytes, links_place,
 use Rattle.lines.specs.Head.{head_text, booking_count_in, way_count_in, limit_in, head_of}
 use Rattle.lines.specs.Booking.{kind_in, desk_in}
 use Rattle.lines.specs.Bookings.{bookings_text, letter_on, desk_on, no_bookings}
-use Rattle.lines.specs.Links.{links_text, no_links}
-use Rattle.lines.specs.declared.Head.{Head}
-use Rattle.lines.specs.declared.Head.TheVariants as H
+use Rattle.plan.specs.Links.{no_links}
+use Rattle.lines.specs.HeadFault.{head_fault_of}
+use Rattle.lines.specs.Links.{links_text}
+use Rattle.lines.specs.declared.Counts.{Counts}
+use Rattle.lines.specs.declared.HeadFault.{HeadFault}
 use Rattle.lines.proofs.RoundTrip.{its-limit, HeadIs, head-accepted}
 use Rattle.lines.proofs.AllLines.{letter_at, desk-at, BookingsAre, bookings-accepted, LinksAre, links-accepted}
 use Rattle.lines.proofs.Lengths.{no-bookings-length, no-links-length}
 use Rattle.ways.specs.WayText.{ways_text, ways_length, size_at}
 use Rattle.ways.specs.Ways.{counts_listed, listed_on}
 use Rattle.ways.proofs.WaysRoundTrip.{Read, all-accepted}
-use Rattle.sheet.specs.Sheet.{bookings_in, links_in, ways_in, plan_in, refused_of, end_of, body_of, sheet_within}
+use Rattle.sheet.specs.Sheet.{Sheet, bookings_in, links_in, ways_in, plan_in, refused_of, end_of, body_of, sheet_within}
 use Rattle.sheet.specs.Text.{sheet_text}
-use Rattle.sheet.specs.declared.Sheet.{Sheet}
 
 -- ---- what was found on the way to an accepted sheet
 
@@ -52,9 +52,9 @@ record Stages (s : List ℕ) : Type 0 where
   limit : ℕ
   first : take head_bytes s ≡ head_text n m a limit
   fits : Limited n m a limit
-  bookings : (bookings_in n s).judged ≡ Fine
-  links : (links_in n m s).judged ≡ Fine
-  ways : (ways_in n m a s).judged ≡ Fine
+  bookings : (bookings_in n s).judged ≡ Ok tt
+  links : (links_in n m s).judged ≡ Ok tt
+  ways : (ways_in n m a s).judged ≡ Ok tt
   end : (ways_in n m a s).next ≡ length s
 
 -- and what it is to a caller that takes so much
@@ -63,7 +63,7 @@ record Found (most : Limits) (s : List ℕ) : Type 0 where
   taken : counted most stages.n stages.m stages.a ≡ true
   bookings : booking_count_in (take head_bytes s) ≡ stages.n
   ways : way_count_in (take head_bytes s) ≡ stages.a
-  read : sheet_within most s ≡ record { judged = Fine; plan = plan_in stages.n stages.m stages.a stages.limit s }
+  read : sheet_within most s ≡ record { judged = Ok tt; plan = plan_in stages.n stages.m stages.a stages.limit s }
 
 module _ (most : Limits) (s : List ℕ) where
   body-found : (n m a limit : ℕ) → HeadIs most (take head_bytes s) n m a limit → (x y z w : Bool) → is_fine (bookings_in n s).judged ≡ x → is_fine (links_in n m s).judged ≡ y
@@ -71,7 +71,7 @@ module _ (most : Limits) (s : List ℕ) where
       → sheet_within most s
       ≡ cond x
       (cond y
-      (cond z (cond w (record { judged = Fine; plan = plan_in n m a limit s }) (refused_of (Form (n + m + a + 2)))) (refused_of (ways_in n m a s).judged))
+      (cond z (cond w (record { judged = Ok tt; plan = plan_in n m a limit s }) (refused_of (Err (Form (n + m + a + 2))))) (refused_of (ways_in n m a s).judged))
       (refused_of (links_in n m s).judged))
       (refused_of (bookings_in n s).judged)
       → is_fine (sheet_within most s).judged ≡ true → Found most s
@@ -103,13 +103,17 @@ module _ (most : Limits) (s : List ℕ) where
   unfolding sheet_within body_of end_of refused_of
   found = go (head_of most (take head_bytes s)) refl
     where
-      go : (h : Head) → head_of most (take head_bytes s) ≡ h → is_fine (sheet_within most s).judged ≡ true → Found most s
-      go (H.Counts n m a limit) e q =
+      go : (h : Result Counts HeadFault) → head_of most (take head_bytes s) ≡ h → is_fine (sheet_within most s).judged ≡ true → Found most s
+      go (Ok c) e q =
+          let n : ℕ = c.bookings in
+          let m : ℕ = c.links in
+          let a : ℕ = c.ways in
+          let limit : ℕ = c.limit in
           body-found n m a limit (head-accepted most (take head_bytes s) n m a limit e) (is_fine (bookings_in n s).judged) (is_fine (links_in n m s).judged) (is_fine (ways_in n m a s).judged)
           (eqb (ways_in n m a s).next (length s)) refl refl refl refl (rw e) q
-      go H.Malformed e q = let f : sheet_within most s ≡ refused_of (Form 1) = rw e in clash true refl (sym (rw f at q))
-      go H.OutOfLimits e q = let f : sheet_within most s ≡ refused_of (Count 1) = rw e in clash true refl (sym (rw f at q))
-      go H.Oversize e q = let f : sheet_within most s ≡ refused_of (Oversize 1) = rw e in clash true refl (sym (rw f at q))
+      go (Err fault) e q =
+          let f : sheet_within most s ≡ refused_of (Err (head_fault_of fault)) = rw e in
+          clash true refl (sym (rw f at q))
 
 -- ---- the parts of an accepted sheet
 
@@ -139,11 +143,11 @@ module _ (s : List ℕ) (t : Stages s) where
       all-accepted t.n (t.n + t.m + 2) t.a (ways_place t.n t.m) (length s) (drop (ways_place t.n t.m) s) (ways_in t.n t.m t.a s).way
       fits.bookings fits.ways
       (ap (λ (j : Judged). record { judged = j; next = (ways_in t.n t.m t.a s).next; way = (ways_in t.n t.m t.a s).way }) t.ways
-      ∙ ap (λ (l : ℕ). record { judged = Fine; next = l; way = (ways_in t.n t.m t.a s).way }) t.end)
+      ∙ ap (λ (l : ℕ). record { judged = Ok tt; next = l; way = (ways_in t.n t.m t.a s).way }) t.end)
 
   -- ---- its plan has no refusal 2 and no refusal 3
 
-  plan-fine : record_of (plan_in t.n t.m t.a t.limit s) ≡ R.Fine
+  plan-fine : record_of (plan_in t.n t.m t.a t.limit s) ≡ Ok tt
   unfolding plan_in
   plan-fine =
       fine-i (plan_in t.n t.m t.a t.limit s) fits (λ b h. the-bookings.good b (omega arith) (omega arith))
@@ -207,7 +211,7 @@ module _ (most : Limits) (s : List ℕ) (e : is_fine (sheet_within most s).judge
   read-plan = sym (ap (λ (r : Sheet). r.plan) told.read)
 
   -- the plan of an accepted sheet passes the record's test
-  pub sheet-fine : record_of (sheet_within most s).plan ≡ R.Fine
+  pub sheet-fine : record_of (sheet_within most s).plan ≡ Ok tt
   sheet-fine = rw (← read-plan) (plan-fine s told.stages)
 
   -- and so has no refusal 2 and no refusal 3

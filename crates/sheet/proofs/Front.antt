@@ -13,29 +13,28 @@ use borrow.Author.Tests.{ne_eqb}
 use Rattle.bounded.specs.Bounded.{all}
 use Rattle.bounded.proofs.Bools.{which, split?}
 use Rattle.sets.specs.Sets.{insert}
-use Rattle.decimal.specs.Decimal.{field_of, field_at}
-use Rattle.decimal.specs.declared.Field.{Field}
-use Rattle.decimal.specs.declared.Field.TheVariants.{Number, Blank, Fault}
+use Rattle.std.specs.Prelude.{Result, Ok, Err, is_ok}
+use Rattle.decimal.specs.Decimal.{Field, field_of, field_at}
 use Rattle.plan.specs.Limits.{within}
 use Rattle.plan.specs.declared.Limits.{Limits}
-use Rattle.plan.specs.declared.Judged.TheVariants.{Form}
+use Rattle.plan.specs.declared.Fault.TheVariants.{Form}
 use Rattle.plan.proofs.LimitLaws.{within-hi, Counted, counted-e}
 use Rattle.lines.specs.Form.{head_bytes, booking_bytes, link_bytes, links_place, ways_place}
 use Rattle.lines.specs.Head.{head_of}
 use Rattle.lines.specs.Booking.{booking_of}
 use Rattle.lines.specs.Bookings.{after_booking, bookings_of, no_bookings}
 use Rattle.lines.specs.Link.{link_of}
-use Rattle.lines.specs.Links.{Links, after_link, links_of, no_links}
+use Rattle.plan.specs.Links.{no_links}
+use Rattle.lines.specs.Links.{Links, after_link, links_of}
 use Rattle.lines.specs.declared.Bookings.{Bookings}
-use Rattle.lines.specs.declared.Head.{Head}
-use Rattle.lines.specs.declared.Head.TheVariants as H
+use Rattle.lines.specs.declared.Counts.{Counts}
+use Rattle.lines.specs.declared.HeadFault.{HeadFault}
 use Rattle.lines.proofs.RoundTrip.{head-accepted}
 use Rattle.ways.specs.WayText.{way_front_bytes, way_bytes}
-use Rattle.ways.specs.Way.{is_number, number_there, sequence_or_form, after_number, gather_of, line_feed_at, members_of, count_of, after_count, way_line_of}
+use Rattle.ways.specs.Way.{number_there, sequence_or_form, after_number, gather_of, line_feed_at, members_of, count_of, after_count, way_line_of}
 use Rattle.ways.specs.Ways.{after_way, ways_of, no_ways}
-use Rattle.ways.specs.declared.Gathered.TheVariants as G
-use Rattle.ways.specs.declared.Way.{Way}
-use Rattle.ways.specs.declared.Way.TheVariants.{Members, Malformed, OutOfLimits, OutOfSequence}
+use Rattle.lines.specs.declared.LineFault.TheVariants.{Malformed, OutOfSequence}
+use Rattle.ways.specs.declared.WayFault.{WayFault}
 use Rattle.ways.specs.declared.Ways.{Ways}
 use Rattle.ways.proofs.ReadLaws.{few-members}
 use Rattle.sheet.specs.Sheet.{bookings_in, links_in, ways_in, refused_of, end_of, body_of, after_head, sheet_within}
@@ -83,7 +82,7 @@ numbers-alike : {x y : List ℕ} (k : ℕ) → Alike (4 * k) x y → all (number
 unfolding all number_there field_at
 numbers-alike zero e = refl
 numbers-alike (suc k) e =
-    ap₂ ◌&&◌ (numbers-alike k (from 0 (4 * k) (omega arith) e)) (ap (λ (l : List ℕ). is_number (field_of 4 l)) (from (4 * k) 4 (omega arith) e).bytes)
+    ap₂ ◌&&◌ (numbers-alike k (from 0 (4 * k) (omega arith) e)) (ap (λ (l : List ℕ). is_ok (field_of 4 l)) (from (4 * k) 4 (omega arith) e).bytes)
 
 -- what they give as a set
 gather-alike : {x y : List ℕ} (n k last s : ℕ) → Alike (4 * k) x y → gather_of n last s k x ≡ gather_of n last s k y
@@ -92,7 +91,7 @@ gather-alike n zero last s e = refl
 gather-alike {x} {y} n (suc k) last s e =
     let f : Alike (4 * k) (drop 4 x) (drop 4 y) = from 4 (4 * k) (omega arith) e in
     rw ((from 0 4 (omega arith) e).bytes, numbers-alike k f)
-    (ap (after_number (field_of 4 (take 4 y)) n last (cond (all (number_there (drop 4 y)) k) G.OutOfSequence G.Malformed))
+    (ap (after_number (field_of 4 (take 4 y)) n last (cond (all (number_there (drop 4 y)) k) OutOfSequence Malformed))
     (fun_ext (λ z. gather-alike n k z (insert s (z - 1)) f)))
 
 -- the line after its count, to the line feed
@@ -110,12 +109,11 @@ unfolding way_line_of
 way-alike n x y e = ap (λ (l : List ℕ). after_count (count_of l) n x) (from 0 way_front_bytes (omega arith) e).bytes ∙ go (count_of (take way_front_bytes y))
   where
     go : (f : Field) → after_count f n x ≡ after_count f n y
-    go (Number k) = elim (which (within 1 k n)) [
+    go (Ok k) = elim (which (within 1 k n)) [
       | inl w ↦ rw w (members_alike n k x y (from 0 (way_bytes k) (omega (arith, within-hi 1 k n w)) e))
       | inr w ↦ rw w refl
     ]
-    go Blank = refl
-    go Fault = refl
+    go (Err _) = refl
 
 -- ---- the lines of the ways
 
@@ -126,11 +124,9 @@ record Ends (b : ℕ) (v w : Ways) : Type 0 where
 
 -- on past one line
 module _ (n l at b : ℕ) (ws : List ℕ) (f g : ℕ → ℕ → Ways) (h : at ≤ b) (more : (k s : ℕ) → k ≤ n → Ends b (f k s) (g k s)) where
-  after-alike : (t : Way) → ((k s : ℕ) → t ≡ Members k s → k ≤ n) → Ends b (after_way t l at ws f) (after_way t l at ws g)
-  after-alike (Members k s) few = more k s (few k s refl)
-  after-alike Malformed few = record { same = refl; place = h }
-  after-alike OutOfLimits few = record { same = refl; place = h }
-  after-alike OutOfSequence few = record { same = refl; place = h }
+  after-alike : (t : Result (ℕ × ℕ) WayFault) → ((w : ℕ × ℕ) → t ≡ Ok w → w.0 ≤ n) → Ends b (after_way t l at ws f) (after_way t l at ws g)
+  after-alike (Ok w) few = more w.0 w.1 (few w refl)
+  after-alike (Err fault) few = record { same = refl; place = h }
 
 ways-alike : {x y : List ℕ} (n first more i at b : ℕ) (ws : List ℕ) → at + way_bytes n * more ≤ b → Alike (way_bytes n * more) x y
     → Ends b (ways_of n first more i at x ws) (ways_of n first more i at y ws)
@@ -141,7 +137,7 @@ ways-alike {x} {y} n first (suc more) i at b ws h e =
     rw (way-alike n x y (from 0 (way_bytes n) (omega (arith, m)) e))
     (after-alike n (first + i) at b ws _ _ (omega (arith, m))
     (λ k s u. ways-alike {x = drop (way_bytes k) x} {y = drop (way_bytes k) y} n first more (i + 1) (at + way_bytes k) b (set ws i s) (omega (arith, m)) (from (way_bytes k) (way_bytes n * more) (omega (arith, m)) e))
-    (way_line_of n y) (λ k s. few-members n y (way_line_of n y) k s refl))
+    (way_line_of n y) (few-members n y))
 
 -- ---- the sheet
 
@@ -161,7 +157,7 @@ module _ (most : Limits) (x y : List ℕ) (e : Alike (longest_within most) x y) 
     ways = ways-alike n (n + m + 2) a 0 (ways_place n m) (longest_within most) no_ways c (from (ways_place n m) (way_bytes n * a) c e)
 
     -- past the ways bytes remain
-    unended : (s : List ℕ) → (ways_in n m a s).next ≤ longest_within most → longest_within most < length s → end_of n m a limit s ≡ refused_of (Form (n + m + a + 2))
+    unended : (s : List ℕ) → (ways_in n m a s).next ≤ longest_within most → longest_within most < length s → end_of n m a limit s ≡ refused_of (Err (Form (n + m + a + 2)))
     unfolding end_of
     unended s h l = rw (ne_eqb (ways_in n m a s).next (length s) (λ z. omega arith))
 
@@ -173,14 +169,16 @@ module _ (most : Limits) (x y : List ℕ) (e : Alike (longest_within most) x y) 
   unfolding sheet_within longest_within
   sheet-alike = ap (λ (l : List ℕ). after_head (head_of most l) x) (from 0 head_bytes (omega arith) e).bytes ∙ go (head_of most (take head_bytes y)) refl
     where
-      go : (h : Head) → head_of most (take head_bytes y) ≡ h → after_head h x ≡ after_head h y
-      go (H.Counts n m a limit) f =
+      go : (h : Result Counts HeadFault) → head_of most (take head_bytes y) ≡ h → after_head h x ≡ after_head h y
+      go (Ok counts) f =
+          let n : ℕ = counts.bookings in
+          let m : ℕ = counts.links in
+          let a : ℕ = counts.ways in
+          let limit : ℕ = counts.limit in
           let c : Counted most n m a = counted-e most n m a (head-accepted most (take head_bytes y) n m a limit f).taken in
           let l : way_bytes n ≤ way_bytes most.bookings = omega (arith, c.bookings) in
           body_alike n m a limit (omega (arith, c.bookings, c.links, mul-le-mul l c.ways))
-      go H.Malformed f = refl
-      go H.OutOfLimits f = refl
-      go H.Oversize f = refl
+      go (Err fault) f = refl
 
 -- what lies past the longest sheet that a caller takes does not count: one byte more is enough to see that there is more
 pub sheet-front : (most : Limits) (s : List ℕ) → sheet_within most (take (longest_within most + 1) s) ≡ sheet_within most s

@@ -8,25 +8,25 @@ use native.Mathlib.Omega.{arith}
 use lib.ListN.{length, take, drop}
 use lib.Dec.{eqb}
 use Rattle.bounded.proofs.Bools.{clash, by_cond}
-use Rattle.plan.specs.Judging.{is_fine, judged_refusal, judged_place}
+use Rattle.std.specs.Prelude.{Result, Ok, Err}
+use Rattle.plan.specs.Judging.{Judged, is_fine, judged_refusal, judged_place}
 use Rattle.plan.specs.declared.Limits.{Limits}
 use Rattle.plan.specs.declared.Plan.{Plan}
-use Rattle.plan.specs.declared.Judged.{Judged}
-use Rattle.plan.specs.declared.Judged.TheVariants.{Fine, Form}
+use Rattle.plan.specs.declared.Fault.TheVariants.{Form}
 use Rattle.plan.proofs.LimitLaws.{Limited}
 use Rattle.plan.proofs.RecordLaws.{Upto, further}
 use Rattle.lines.specs.Form.{head_bytes, links_place, ways_place}
 use Rattle.lines.specs.Head.{head_of}
 use Rattle.lines.specs.Bookings.{no_bookings}
-use Rattle.lines.specs.Links.{no_links}
-use Rattle.lines.specs.declared.Head.{Head}
-use Rattle.lines.specs.declared.Head.TheVariants as H
+use Rattle.plan.specs.Links.{no_links}
+use Rattle.lines.specs.declared.Counts.{Counts}
+use Rattle.lines.specs.declared.HeadFault.{HeadFault}
+use Rattle.lines.specs.declared.HeadFault.TheVariants as H
 use Rattle.lines.proofs.RoundTrip.{head-limits}
 use Rattle.lines.proofs.Places.{bookings-small, links-small}
 use Rattle.ways.specs.Ways.{no_ways}
 use Rattle.ways.proofs.Places.{ways-small}
-use Rattle.sheet.specs.Sheet.{bookings_in, links_in, ways_in, plan_in, past, refused_of, end_of, body_of, after_head, sheet_within}
-use Rattle.sheet.specs.declared.Sheet.{Sheet}
+use Rattle.sheet.specs.Sheet.{Sheet, bookings_in, links_in, ways_in, plan_in, past, refused_of, end_of, body_of, after_head, sheet_within}
 
 -- what the lines after the head tell, of a sheet with few enough of them
 abbrev Told : Judged → Type 0
@@ -51,7 +51,7 @@ refused-small : (j : Judged) → Told j → Small-sheet (refused_of j)
 unfolding refused_of
 refused-small j h = record { told = h }
 
-fine-small : (p : Plan) → Small-sheet (record { judged = Fine; plan = p })
+fine-small : (p : Plan) → Small-sheet (record { judged = Ok tt; plan = p })
 fine-small p = record { told = record { place = omega arith; few = omega arith } }
 
 past-small : (j : Judged) (r : Sheet) → Told j → Small-sheet r → Small-sheet (past j r)
@@ -60,8 +60,8 @@ past-small j r h n = by_cond Small-sheet {t = is_fine j} {a = r} {b = refused_of
 end-small : (n m a limit : ℕ) (s : List ℕ) → Limited n m a limit → Small-sheet (end_of n m a limit s)
 unfolding end_of
 end-small n m a limit s l =
-    by_cond Small-sheet {t = eqb (ways_in n m a s).next (length s)} {a = record { judged = Fine; plan = plan_in n m a limit s }} {b = refused_of (Form (n + m + a + 2))}
-    (λ _. fine-small (plan_in n m a limit s)) (λ _. refused-small (Form (n + m + a + 2)) (record { place = omega (arith, l.bookings, l.links, l.ways); few = omega arith }))
+    by_cond Small-sheet {t = eqb (ways_in n m a s).next (length s)} {a = record { judged = Ok tt; plan = plan_in n m a limit s }} {b = refused_of (Err (Form (n + m + a + 2)))}
+    (λ _. fine-small (plan_in n m a limit s)) (λ _. refused-small (Err (Form (n + m + a + 2))) (record { place = omega (arith, l.bookings, l.links, l.ways); few = omega arith }))
 
 body-small : (n m a limit : ℕ) (s : List ℕ) → Limited n m a limit → Small-sheet (body_of n m a limit s)
 unfolding body_of
@@ -70,15 +70,17 @@ body-small n m a limit s l =
     (past-small (links_in n m s).judged _ (links-in n m s l) (past-small (ways_in n m a s).judged _ (ways-in n m a s l) (end-small n m a limit s l)))
 
 module _ (most : Limits) (s : List ℕ) where
-  by-head : (h : Head) → head_of most (take head_bytes s) ≡ h → (h ≡ H.Oversize → ⊥) → Told (after_head h s).judged
+  by-head : (h : Result Counts HeadFault) → head_of most (take head_bytes s) ≡ h → (h ≡ Err H.Oversize → ⊥) → Told (after_head h s).judged
   unfolding refused_of
-  by-head (H.Counts n m a limit) e o = (body-small n m a limit s (head-limits most (take head_bytes s) (head_of most (take head_bytes s)) n m a limit refl e)).told
-  by-head H.Malformed e o = record { place = omega arith; few = omega arith }
-  by-head H.OutOfLimits e o = record { place = omega arith; few = omega arith }
-  by-head H.Oversize e o = absurd (o refl)
+  by-head (Ok c) e o =
+      (body-small c.bookings c.links c.ways c.limit s
+      (head-limits most (take head_bytes s) (head_of most (take head_bytes s)) c.bookings c.links c.ways c.limit refl e)).told
+  by-head (Err H.Malformed) e o = record { place = omega arith; few = omega arith }
+  by-head (Err H.OutOfLimits) e o = record { place = omega arith; few = omega arith }
+  by-head (Err H.Oversize) e o = absurd (o refl)
 
   -- refused with 1, 2 or 3
-  pub sheet-few : (head_of most (take head_bytes s) ≡ H.Oversize → ⊥) → judged_refusal (sheet_within most s).judged ≤ 3
+  pub sheet-few : (head_of most (take head_bytes s) ≡ Err H.Oversize → ⊥) → judged_refusal (sheet_within most s).judged ≤ 3
   unfolding sheet_within
   sheet-few o = (by-head (head_of most (take head_bytes s)) refl o).few
 
@@ -86,8 +88,8 @@ module _ (most : Limits) (s : List ℕ) where
   unfolding sheet_within refused_of
   sheet-small = go (head_of most (take head_bytes s)) refl
     where
-      go : (h : Head) → head_of most (take head_bytes s) ≡ h → judged_place (after_head h s).judged < 65536
-      go (H.Counts n m a limit) e = omega (arith, (by-head (H.Counts n m a limit) e (λ o. clash true refl cc)).place)
-      go H.Malformed e = omega arith
-      go H.OutOfLimits e = omega arith
-      go H.Oversize e = omega arith
+      go : (h : Result Counts HeadFault) → head_of most (take head_bytes s) ≡ h → judged_place (after_head h s).judged < 65536
+      go (Ok c) e = omega (arith, (by-head (Ok c) e (λ o. clash true refl cc)).place)
+      go (Err H.Malformed) e = omega arith
+      go (Err H.OutOfLimits) e = omega arith
+      go (Err H.Oversize) e = omega arith

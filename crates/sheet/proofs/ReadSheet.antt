@@ -16,18 +16,17 @@ use Rattle.plan.specs.Judging.{is_fine}
 use Rattle.plan.specs.Limits.{most_bookings, most_links, most_ways, ours, counted}
 use Rattle.plan.specs.declared.Limits.{Limits}
 use Rattle.plan.specs.Record.{record_of}
-use Rattle.plan.specs.declared.Judged.TheVariants.{Fine}
+use Rattle.std.specs.Prelude.{Ok}
 use Rattle.plan.proofs.LimitLaws.{Counted, Limited, limited-i}
 use Rattle.plan.proofs.Valid.{valid, fine-entries, booking-fits, link_fits}
 use Rattle.lines.specs.Form.{head_bytes, booking_bytes, link_bytes, links_place, ways_place}
 use Rattle.lines.specs.Head.{head_text, head_of}
 use Rattle.lines.specs.Bookings.{bookings_text, no_bookings}
-use Rattle.lines.specs.Links.{links_text, no_links}
+use Rattle.plan.specs.Links.{no_links}
+use Rattle.lines.specs.Links.{links_text}
 use Rattle.lines.proofs.Lengths.{head-length, bookings-length, links-length}
 use Rattle.lines.proofs.RoundTrip.{head_read}
 use Rattle.lines.proofs.AllLines.{bookings-read, links-read}
-use Rattle.plan.specs.declared.Judgement.TheVariants as R
-use Rattle.lines.specs.declared.Head.TheVariants as H
 use Rattle.ways.specs.WayText.{way_bytes, ways_text, ways_length}
 use Rattle.ways.specs.Ways.{no_ways}
 use Rattle.ways.proofs.WaysRoundTrip.{ways-length, all_read}
@@ -68,11 +67,11 @@ read_plan p = record {
   way = filled p.a 0 p.way no_ways;
 }
 
-module _ (p : Plan) (e : record_of p ≡ R.Fine) where
+module _ (p : Plan) (e : record_of p ≡ Ok tt) where
   fits : Limited p.n p.m p.a p.limit
   fits = (valid p e).counts
 
-  the-head : (most : Limits) → counted most p.n p.m p.a ≡ true → head_of most (take head_bytes (sheet_text p)) ≡ H.Counts p.n p.m p.a p.limit
+  the-head : (most : Limits) → counted most p.n p.m p.a ≡ true → head_of most (take head_bytes (sheet_text p)) ≡ Ok (record { bookings = p.n; links = p.m; ways = p.a; limit = p.limit })
   unfolding sheet_text
   the-head most c =
       rw (take_at (head_text p.n p.m p.a p.limit) (bookings_text p.n 0 p.kind p.desk ++ (links_text p.m 0 p.from p.to ++ ways_text p.a 0 p.way)) head_bytes (head-length p.n p.m p.a p.limit))
@@ -92,19 +91,19 @@ module _ (p : Plan) (e : record_of p ≡ R.Fine) where
       ∙ rw from-links (drop_at (links_text p.m 0 p.from p.to) _ (link_bytes * p.m) (links-length p.m 0 p.from p.to))
       ∙ sym (append-nil (ways_text p.a 0 p.way))
 
-  the-bookings : bookings_in p.n (sheet_text p) ≡ record { judged = Fine; kind = (read_plan p).kind; desk = (read_plan p).desk }
+  the-bookings : bookings_in p.n (sheet_text p) ≡ record { judged = Ok tt; kind = (read_plan p).kind; desk = (read_plan p).desk }
   unfolding bookings_in read_plan
   the-bookings =
       rw from-bookings
       (bookings-read p.n 0 p.kind p.desk _ no_bookings no_bookings (omega (arith, fits.bookings)) (λ j l u. booking-fits p (fine-entries p e) j (omega arith)))
 
-  the_links : links_in p.n p.m (sheet_text p) ≡ record { judged = Fine; from = (read_plan p).from; to = (read_plan p).to }
+  the_links : links_in p.n p.m (sheet_text p) ≡ record { judged = Ok tt; from = (read_plan p).from; to = (read_plan p).to }
   unfolding links_in read_plan
   the_links =
       rw from-links
       (links-read p.n p.m 0 p.from p.to _ 0 0 no_links no_links (omega (arith, fits.bookings)) (λ j l u. link_fits p (fine-entries p e) j (omega arith)) refl refl)
 
-  the_ways : ways_in p.n p.m p.a (sheet_text p) ≡ record { judged = Fine; next = sheet_length p; way = (read_plan p).way }
+  the_ways : ways_in p.n p.m p.a (sheet_text p) ≡ record { judged = Ok tt; next = sheet_length p; way = (read_plan p).way }
   unfolding ways_in read_plan sheet_length
   the_ways =
       rw from-ways
@@ -112,7 +111,7 @@ module _ (p : Plan) (e : record_of p ≡ R.Fine) where
       (λ k h. record { some = (valid p e).taken k h; small = (valid p e).sets k h }))
 
   -- the sheet of a record that is fine reads as that record, to each caller that takes so much
-  pub sheet-read : (most : Limits) → counted most p.n p.m p.a ≡ true → sheet_within most (sheet_text p) ≡ record { judged = Fine; plan = read_plan p }
+  pub sheet-read : (most : Limits) → counted most p.n p.m p.a ≡ true → sheet_within most (sheet_text p) ≡ record { judged = Ok tt; plan = read_plan p }
   unfolding sheet_within body_of end_of plan_in read_plan
   sheet-read most c = rw (the-head most c, the-bookings, the_links, the_ways, eq-eqb _ _ (sym (sheet-length p)))
 

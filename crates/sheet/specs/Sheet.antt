@@ -3,24 +3,29 @@
 -- 16, after these, where the caller takes less than a sheet may have.
 -- Where bytes end early the line that lacks one is not of its form; where bytes remain, the line after the last is not.
 -- Assumes nothing.
-use Rattle.std.specs.Prelude.{ℕ, ◌+◌, List, Bool, cond, length, take, drop, eqb}
+use Rattle.std.specs.Prelude.{ℕ, ◌+◌, List, Bool, cond, length, take, drop, eqb, Result, Ok, Err}
 use Rattle.plan.specs.Limits.{ours}
-use Rattle.plan.specs.Judging.{is_fine}
+use Rattle.plan.specs.Judging.{Judged, is_fine}
 use Rattle.plan.specs.declared.Limits.{Limits}
-use Rattle.plan.specs.declared.Judged.{Judged}
-use Rattle.plan.specs.declared.Judged.TheVariants as J
-use Rattle.plan.specs.declared.Judged.TheVariants.{Fine, Form, Count}
+use Rattle.plan.specs.declared.Fault.{Fault}
+use Rattle.plan.specs.declared.Fault.TheVariants.{Form}
 use Rattle.plan.specs.declared.Plan.{Plan}
 use Rattle.lines.specs.Form.{head_bytes, links_place, ways_place}
 use Rattle.lines.specs.Head.{head_of, over_head}
+use Rattle.lines.specs.HeadFault.{head_fault_of}
 use Rattle.lines.specs.Bookings.{bookings_of, no_bookings}
-use Rattle.lines.specs.Links.{Links, links_of, no_links}
-use Rattle.lines.specs.declared.Head.{Head}
-use Rattle.lines.specs.declared.Head.TheVariants.{Counts, Malformed, OutOfLimits, Oversize}
+use Rattle.plan.specs.Links.{no_links}
+use Rattle.lines.specs.Links.{Links, links_of}
+use Rattle.lines.specs.declared.Counts.{Counts}
+use Rattle.lines.specs.declared.HeadFault.{HeadFault}
 use Rattle.lines.specs.declared.Bookings.{Bookings}
 use Rattle.ways.specs.Ways.{ways_of, no_ways}
 use Rattle.ways.specs.declared.Ways.{Ways}
-use Rattle.sheet.specs.declared.Sheet.{Sheet}
+
+-- what a sheet is, and its plan, which is empty where the sheet is refused
+pub record Sheet : Type 0 where
+  pub judged : Judged
+  pub plan : Plan
 
 -- what the three kinds of lines after the head give; the first way stands on line n + m + 2
 unfoldable pub bookings_in : ℕ → List ℕ → Bookings
@@ -59,17 +64,15 @@ past j next = cond (is_fine j) next (refused_of j)
 
 -- the ways are to end where the sheet ends; the line after the last way is line n + m + a + 2
 unfoldable pub end_of : ℕ → ℕ → ℕ → ℕ → List ℕ → Sheet
-end_of n m a limit s = cond (eqb (ways_in n m a s).next (length s)) (record { judged = Fine; plan = plan_in n m a limit s }) (refused_of (Form (n + m + a + 2)))
+end_of n m a limit s = cond (eqb (ways_in n m a s).next (length s)) (record { judged = Ok tt; plan = plan_in n m a limit s }) (refused_of (Err (Form (n + m + a + 2))))
 
 -- the lines after the head
 unfoldable pub body_of : ℕ → ℕ → ℕ → ℕ → List ℕ → Sheet
 body_of n m a limit s = past (bookings_in n s).judged (past (links_in n m s).judged (past (ways_in n m a s).judged (end_of n m a limit s)))
 
-abbrev pub after_head : Head → List ℕ → Sheet
-after_head (Counts n m a limit) s = body_of n m a limit s
-after_head Malformed s = refused_of (Form 1)
-after_head OutOfLimits s = refused_of (Count 1)
-after_head Oversize s = refused_of (J.Oversize 1)
+abbrev pub after_head : Result Counts HeadFault → List ℕ → Sheet
+after_head (Ok c) s = body_of c.bookings c.links c.ways c.limit s
+after_head (Err f) s = refused_of (Err (head_fault_of f))
 
 -- what the bytes of a sheet are to a caller with such limits
 unfoldable pub sheet_within : Limits → List ℕ → Sheet
@@ -82,3 +85,12 @@ sheet_of s = sheet_within ours s
 -- a sheet within our limits and over the caller's, by its head
 unfoldable pub oversize : Limits → List ℕ → Bool
 oversize most s = over_head most (take head_bytes s)
+
+-- ---- what a reader gives of a sheet: a part of its plan, or what is wrong with it
+
+abbrev pub given : {A : Type 0} → Judged → A → Result A Fault
+given (Ok u) x = Ok x
+given (Err f) x = Err f
+
+abbrev pub plan_read : Sheet → Result Plan Fault
+plan_read t = given t.judged t.plan

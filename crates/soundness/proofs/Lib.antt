@@ -1,2 +1,3 @@
 -- The laws of crate `soundness`.
 pub mod Tests
+pub mod Listed

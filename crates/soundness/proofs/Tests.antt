@@ -3,52 +3,27 @@
 use mathlib.Core.Path.{◌≡◌, refl, sym, ap, ◌∙◌}
 use mathlib.Core.Logic.{◌≢◌, inl, inr}
 use mathlib.Core.Bool.{Bool, true, false, not, ◌&&◌, ◌||◌}
-use mathlib.Core.List.{List}
-use Prim.Native.Nat.{ℕ, zero, suc, ◌+◌, ◌-◌, ◌≤◌, ◌<◌}
+use Prim.Native.Nat.{ℕ, zero, suc, ◌-◌, ◌^◌, ◌≤◌, ◌<◌}
 use native.Mathlib.Omega.{arith}
-use borrow.Author.Tests.{le-leb, lt-leb, eq-eqb, eqb-true, not-true}
+use borrow.Author.Tests.{le-leb, lt-leb}
 use lib.Dec.{eqb, leb}
 use lib.ListN.{get_or}
-use lib.Bits.{bit_and, bit_or, or_add_and, and_le_l, and_le_r}
+use lib.Bits.{bit_and}
 use Rattle.bounded.specs.Bounded.{imp, all}
-use Rattle.bounded.proofs.Bools.{◌&◌, and_l, and_r, and-no-l, and-no-r, off, clash, imp-e, imp-i, not-i, same_test, split?, went, and-true}
-use Rattle.bounded.proofs.Tests.{all-i, all-e, all-suc}
-use Rattle.sets.specs.Sets.{without, subset_of, disjoint_from, some}
-use Rattle.sets.proofs.Facts.{subset-i, meet-i, both-e, some-on, some-off}
+use Rattle.bounded.proofs.Bools.{◌&◌, off, and-no-l, and-no-r, clash, imp-e, imp-i, same_test, split?, and-true, and-go, and_assoc}
+use Rattle.bounded.proofs.Tests.{all-i, all-e, all-n}
+use Rattle.sets.specs.Sets.{member, kept, only, without, subset_of, disjoint_from, some}
+use Rattle.sets.proofs.Gather.{gather-lt}
+use Rattle.sets.proofs.Facts.{subset-e, without-e, without-i, some-i, some-member, subset-i, meet-i, both-e, some-on, some-off}
 use Rattle.network.specs.declared.Network.{Network}
-use Rattle.standing.specs.Standing.{free, returning, code_is}
-use Rattle.standing.specs.Ways.{preceding, lost_in, live_at}
+use Rattle.standing.specs.Standing.{free, returning}
+use Rattle.standing.specs.Ways.{preceding, lost_in}
 use Rattle.standing.specs.declared.Standing.{Standing}
 use Rattle.standing.proofs.Facts.{is-e, preceding-e}
 use Rattle.run.specs.declared.Run.{Run}
-use Rattle.run.specs.State.{code}
-use Rattle.run.specs.Sound.{code_known, codes_known, way_known, zero_past, rest_zero, quiet, ways_before, passed_over, earlier_dead, lost_pending}
-
--- ---- bytes past n
-
--- a byte of the array is zero if it stands past n
-unfoldable pub past_in : List ℕ → ℕ → ℕ → Bool
-past_in codes n b = imp (leb n b) (code_is codes free b)
-
-zero-both : (a b : ℕ) → eqb (bit_or a b) 0 ≡ eqb a 0 && eqb b 0
-zero-both a b =
-    same_test (eqb (bit_or a b) 0) (eqb a 0 && eqb b 0)
-    (λ e. let z = eqb-true (bit_or a b) 0 e in
-    eq-eqb a 0 (omega (arith, or_add_and a b, and_le_r a b)) & eq-eqb b 0 (omega (arith, or_add_and a b, and_le_l a b)))
-    (λ e. let p = eqb-true a 0 (and_l (eqb a 0) _ e) in
-    let q = eqb-true b 0 (and_r (eqb a 0) _ e) in
-    eq-eqb (bit_or a b) 0 (omega (arith, or_add_and a b)))
-
-module _ (codes : List ℕ) (n : ℕ) where
-  -- nothing past n is seen before it
-  pub none_seen : true ≡ all (past_in codes n) n
-  unfolding past_in
-  none_seen = sym (all-i (past_in codes n) n (λ b h. rw (lt-leb n b h)))
-
-  -- what is seen, with byte b
-  pub seen_more : (seen x b : ℕ) → n ≤ b → eqb x 0 ≡ code_is codes free b → eqb seen 0 ≡ all (past_in codes n) b → eqb (bit_or seen x) 0 ≡ all (past_in codes n) (b + 1)
-  unfolding past_in
-  seen_more seen x b h e p = zero-both seen x ∙ sym (all-suc (past_in codes n) b ∙ rw (le-leb n b h, ← e, ← p))
+use Rattle.run.specs.State.{code, standing}
+use Rattle.soundness.specs.Parts.{grounds_hold, change_holds, rest_holds, stands_soundly}
+use Rattle.run.specs.Sound.{code_known, codes_known, way_known, zero_past, rest_zero, quiet, ways_before, lost_pending, sound}
 
 -- known codes below n are enough where the rest is zero
 known-all : (g : Network) (r : Run) → g.n ≤ 64 → rest_zero g r ≡ true → all (code_known r) g.n ≡ codes_known r
@@ -67,17 +42,49 @@ module _ (g : Network) (r : Run) where
   unfolding way_known
   way_unknown h = sym (and-no-r (codes_known r) _ (and-no-l (way_known g r) _ (lt-leb r.way g.a h)))
 
-  module _ (x : Bool) (ex : x ≡ rest_zero g r) where
-    pub rest-used : not x ≡ true → false ≡ codes_known r && (way_known g r && rest_zero g r)
-    rest-used n = sym (and-no-r (codes_known r) _ (and-no-r (way_known g r) _ (sym ex ∙ not-true x n)))
+  pub rest-used : rest_zero g r ≡ false → false ≡ codes_known r && (way_known g r && rest_zero g r)
+  rest-used z = sym (and-no-r (codes_known r) _ (and-no-r (way_known g r) _ z))
 
-    pub formed-by : g.n ≤ 64 → r.way ≤ g.a → not x ≡ false → (y : Bool) → y ≡ all (code_known r) g.n → y ≡ codes_known r && (way_known g r && rest_zero g r)
-    unfolding way_known
-    formed-by small h n y ey =
-        let z = went ex n in
-        ey ∙ known-all g r small z ∙ sym (and-true (codes_known r)) ∙ ap (λ (t : Bool). codes_known r && t) (sym (le-leb r.way g.a h & z))
+  pub formed-by : g.n ≤ 64 → r.way ≤ g.a → rest_zero g r ≡ true → (y : Bool) → y ≡ all (code_known r) g.n → y ≡ codes_known r && (way_known g r && rest_zero g r)
+  unfolding way_known
+  formed-by small h z y ey =
+      ey ∙ known-all g r small z ∙ sym (and-true (codes_known r)) ∙ ap (λ (t : Bool). codes_known r && t) (sym (le-leb r.way g.a h & z))
+
+  -- the rule is what a state must be, and what is asked of how its bookings stand
+  split : sound g r ≡ (codes_known r && (way_known g r && rest_zero g r)) && stands_soundly g (standing g r) r.way
+  unfolding sound stands_soundly grounds_hold change_holds rest_holds
+  split = simp and_assoc
+
+  pub unformed : codes_known r && (way_known g r && rest_zero g r) ≡ false → false ≡ sound g r
+  unformed e = sym (split ∙ and-no-l (codes_known r && (way_known g r && rest_zero g r)) _ e)
+
+  pub formed-sound : codes_known r && (way_known g r && rest_zero g r) ≡ true → stands_soundly g (standing g r) r.way ≡ sound g r
+  formed-sound e = and-go (codes_known r && (way_known g r && rest_zero g r)) _ e ∙ sym split
 
 -- ---- a held booking outside the current way, or a returning one
+
+imp-n : (x y : Bool) → imp x y ≡ false → (x ≡ true) × (y ≡ false)
+imp-n true false e = (refl, refl)
+imp-n true true e = cc
+imp-n false y e = cc
+
+without-lt : (a b : ℕ) → without a b < 2 ^ 64
+unfolding without
+without-lt a b = gather-lt (only a b) 64
+
+-- a set that is no subset of another has a member outside it, and one that is has none
+outside-n : (a b : ℕ) → subset_of a b ≡ true → some (without a b) ≡ false
+outside-n a b e = off (some (without a b)) (λ s.
+    let t = some-member (without a b) (without-lt a b) s in
+    let w = without-e a b t.0 t.1 in
+    clash (member b t.0) (subset-e a b t.0 e w.0 w.1) w.2)
+
+outside-i : (a b : ℕ) → subset_of a b ≡ false → some (without a b) ≡ true
+unfolding subset_of kept
+outside-i a b e =
+    let t = all-n (kept a b) 64 e in
+    let f = imp-n (member a t.0) (member b t.0) t.2 in
+    some-i (without a b) t.0 (without-i a b t.0 t.1 f.0 f.1)
 
 not-imp : (b : Bool) → b ≡ imp (not b) false
 not-imp true = refl
@@ -88,17 +95,18 @@ module _ (s : Standing) (way : ℕ) where
   unfolding quiet some
   quiet_none z = sym (imp-i (some (without s.held way) || some s.returning) (not (some s.requested)) (λ e. ap not (some-off s.requested s.requested refl z)))
 
-  module _ (d : s.requested ≢ 0) (m : ℕ) (em : m ≡ without s.held way) where
+  -- where something is requested, nothing held is outside the way if what is held is a subset of it
+  module _ (d : s.requested ≢ 0) where
     asked : some s.requested ≡ true
     asked = some-on s.requested s.requested refl d
 
-    pub quiet-outside : m ≢ 0 → false ≡ quiet s way
+    pub quiet-outside : subset_of s.held way ≡ false → false ≡ quiet s way
     unfolding quiet
-    quiet-outside n = rw (some-on m (without s.held way) em n, asked)
+    quiet-outside n = rw (outside-i s.held way n, asked)
 
-    pub quiet-returning : m ≡ 0 → eqb s.returning 0 ≡ quiet s way
+    pub quiet-inside : subset_of s.held way ≡ true → eqb s.returning 0 ≡ quiet s way
     unfolding quiet some
-    quiet-returning z = rw (some-off m (without s.held way) em z, asked) (not-imp (eqb s.returning 0))
+    quiet-inside z = rw (outside-n s.held way z, asked) (not-imp (eqb s.returning 0))
 
 -- ---- a lost booking in the current way
 
@@ -139,14 +147,3 @@ pub before-few : (g : Network) (w e : ℕ) → g.a ≤ 16 → w ≤ 16 → e ≡
 unfolding ways_before
 before-few g zero e ha hw p = omega arith
 before-few g (suc k) e ha hw p = omega arith
-
-module _ (g : Network) (s : Standing) (w e : ℕ) (ee : e ≡ ways_before g w) where
-  pub earlier-live : (k : ℕ) → k < e → live_at g s k ≡ true → false ≡ earlier_dead g s w
-  unfolding earlier_dead passed_over
-  earlier-live k h t =
-      sym (off (all (passed_over g s) (ways_before g w))
-      (λ a. clash (live_at g s k) t (not-true (live_at g s k) (all-e (passed_over g s) (ways_before g w) a k (omega arith)))))
-
-  pub earlier-none : (k : ℕ) → ((j : ℕ) → j < k → live_at g s j ≡ false) → e ≤ k → true ≡ earlier_dead g s w
-  unfolding earlier_dead passed_over
-  earlier-none k f h = sym (all-i (passed_over g s) (ways_before g w) (λ j b. not-i (live_at g s j) (f j (omega arith))))

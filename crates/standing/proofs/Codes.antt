@@ -12,10 +12,13 @@ use lib.Bits.{bit_or, or_lt}
 use lib.ListN.{length, get_or, set}
 use lib.Seq.{get_or-set_same, get_or-set_other}
 use borrow.Author.Tests.{eq-eqb, ne_eqb}
+use Rattle.std.proofs.Common.{take, length-take}
+use Rattle.std.proofs.lemmas.List.{get_or-take}
 use Rattle.bounded.proofs.Bools.{which, same?, and-no-r, and-true, or_r, or-false}
 use Rattle.sets.specs.Sets.{member, gather, without}
 use Rattle.sets.proofs.Members.{member-or, member-power}
 use Rattle.sets.proofs.Gather.{gather-lt, gather-is, gather-put, gather-skip, member-gather}
+use Rattle.sets.proofs.Operations.{gather-next}
 use Rattle.sets.proofs.Whole.{gather_ext, gather-without}
 use Rattle.standing.specs.Standing.{free, requested, held, lost, returning, code_is, coded, placed, standing_of, moved}
 use Rattle.standing.specs.declared.Standing.{Standing}
@@ -44,10 +47,7 @@ module _ (codes : List ℕ) (c : ℕ) where
   -- with booking i, once those below it are in: s is the set, b booking i alone, t what the code made of them
   pub next-is : (i b s t : ℕ) → b ≡ 2 ^ i → s ≡ coded codes i c → t ≡ cond (eqb (get_or codes i 0) c) (bit_or s b) s → t ≡ coded codes (i + 1) c
   unfolding coded code_is
-  next-is i b s t eb es et = elim (which (code_is codes c i)) [
-    | inl e ↦ rw (et, e, es, eb) (gather-put (code_is codes c) i e)
-    | inr e ↦ rw (et, e, es) (gather-skip (code_is codes c) i e)
-  ]
+  next-is i b s t eb es et = gather-next (code_is codes c) i b s t eb es et
 
   -- after booking b got code v
   put_is : (n b v : ℕ) → n ≤ 64 → b < n → b < length codes → placed (eqb v c) (coded codes n c) (2 ^ b) ≡ coded (set codes b v) n c
@@ -61,6 +61,16 @@ module _ (codes : List ℕ) (c : ℕ) where
       ]
 
 -- ---- all five
+
+-- the first n codes alone say how the bookings below n stand
+pub cut-is : (codes : List ℕ) (n c : ℕ) → n ≤ length codes → coded (take n codes) (length (take n codes)) c ≡ coded codes n c
+unfolding coded code_is
+cut-is codes n c h =
+    let l : length (take n codes) ≡ n = omega (arith, length-take n codes) in
+    rw l (gather_ext _ _ n (λ i k. ap (λ (x : ℕ). eqb x c) (get_or-take n codes i 0 k)))
+
+pub standing-cut : (codes : List ℕ) (n : ℕ) → n ≤ length codes → standing_of (take n codes) (length (take n codes)) ≡ standing_of codes n
+standing-cut codes n h = rw (cut-is codes n free h, cut-is codes n requested h, cut-is codes n held h, cut-is codes n lost h, cut-is codes n returning h)
 
 -- what an order or a reply does to one booking
 pub moved-is : (codes : List ℕ) (n b v : ℕ) (s : Standing) → n ≤ 64 → b < n → length codes ≡ 64 → s ≡ standing_of codes n

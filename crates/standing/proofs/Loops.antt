@@ -2,14 +2,18 @@
 -- Assumes nothing.
 use mathlib.Core.Path.{◌≡◌, ◌∙◌}
 use mathlib.Core.Logic.{◌≢◌, ◌⊎◌, inl, inr}
-use mathlib.Core.Bool.{true}
+use mathlib.Core.Bool.{true, false}
 use mathlib.Core.List.{List}
-use Prim.Native.Nat.{ℕ, ◌+◌, ◌^◌, ◌≤◌, ◌<◌}
+use Prim.Native.Nat.{ℕ, suc, ◌+◌, ◌^◌, ◌≤◌, ◌<◌}
 use native.Mathlib.Nat.{le_refl}
+use native.Mathlib.Omega.{arith}
 use native.Mathlib.Numerals.{add-one}
 use borrow.Author.Tests.{lt-ltb, le-ltb}
 use lib.Bits.{bit_and, bit_or}
-use lib.ListN.{get_or}
+use lib.ListN.{length, take, get_or}
+use Rattle.std.specs.List.{HoldsAt, AllWithin}
+use Rattle.std.proofs.Common.{length-take}
+use Rattle.std.proofs.lemmas.List.{get_or-take}
 use Rattle.bounded.specs.Bounded.{first}
 use Rattle.bounded.proofs.Bools.{clash, same_test}
 use Rattle.bounded.proofs.Loops.{SoFar, first-at, first-over}
@@ -19,9 +23,9 @@ use Rattle.sets.proofs.Facts.{either-e, either_l, either_r, empty-n}
 use Rattle.sets.proofs.Gather.{gather-is}
 use Rattle.sets.proofs.Whole.{cut_at, cut-e}
 use Rattle.sets.proofs.Walk.{lowest-in, but-lowest-fits, but-lowest-e, but-lowest-i}
-use Rattle.network.specs.Network.{before, pre}
+use Rattle.network.specs.Network.{way_of, before, pre}
 use Rattle.network.specs.declared.Network.{Network}
-use Rattle.standing.specs.Ways.{precedes_some, preceding, live_at, first_live}
+use Rattle.standing.specs.Ways.{precedes_some, preceding, live, live_at, first_live}
 use Rattle.standing.specs.declared.Standing.{Standing}
 use Rattle.standing.proofs.Facts.{precedes-i, precedes-e}
 
@@ -56,23 +60,42 @@ module _ (p : List ℕ) (t : ℕ) where
   })
 
 -- b is what `all_below` gave
-pub join-all : (g : Network) (p : List ℕ) (s b r rest : ℕ) → p ≡ g.before → b ≡ all_below g.n → r < 2 ^ 64 → rest ≡ 0 → Joined p (bit_and s b) r rest → r ≡ preceding g s
+pub join-all : (g : Network) (s b r rest : ℕ) → b ≡ all_below g.n → r < 2 ^ 64 → rest ≡ 0 → Joined g.before (bit_and s b) r rest → r ≡ preceding g s
 unfolding preceding pre before
-join-all g p s b r rest ep eb l z j =
+join-all g s b r rest eb l z j =
     gather-is (precedes_some g s) 64 r l (λ i k. same_test (member r i) (precedes_some g s i)
-    (λ e. let f = j.from i e in let t = cut-e s b g.n eb f.0 f.1 in precedes-i g s i f.0 t.0 t.1 (rw ep at f.2))
-    (λ e. let f = precedes-e g s i e in elim (j.into i f.0 (cut_at s b g.n eb f.0 f.1 ∙ f.2) (rw ep f.3)) [
+    (λ e. let f = j.from i e in let t = cut-e s b g.n eb f.0 f.1 in precedes-i g s i f.0 t.0 t.1 f.2)
+    (λ e. let f = precedes-e g s i e in elim (j.into i f.0 (cut_at s b g.n eb f.0 f.1 ∙ f.2) f.3) [
       | inl o ↦ o
       | inr o ↦ clash (member rest f.0) o (empty-n rest f.0 z)
     ]))
 
--- ---- the first live way
+-- ---- the first live way, by what `position` over the ways gives
 
-module _ (g : Network) (s : Standing) (k : ℕ) (past : SoFar (live_at g s) k) where
-  pub live-found : k < g.a → live_at g s k ≡ true → k + 1 ≡ first_live g s
-  unfolding first_live
-  live-found h e = rw (← first-at (live_at g s) g.a k past h e, lt-ltb k g.a h) (add-one k)
+module _ (g : Network) (s : Standing) (long : g.a ≤ length g.way) where
+  ways : List ℕ
+  ways = take g.a g.way
 
-  pub live-none : g.a ≤ k → 0 ≡ first_live g s
-  unfolding first_live
-  live-none h = rw (← first-over (live_at g s) g.a k past h, le-ltb g.a g.a (le_refl g.a))
+  there : (k : ℕ) → k < g.a → get_or ways k 0 ≡ way_of g (suc k)
+  unfolding ways way_of
+  there k h = get_or-take g.a g.way k 0 h
+
+  dead : (n : ℕ) → n ≤ g.a → AllWithin (λ x. live g s x ≡ false) ways 0 n → SoFar (live_at g s) n
+  unfolding live_at
+  dead n h w k l = rw (there k (omega arith)) at (w k 0 (omega arith) l)
+
+  all-ways : length ways ≡ g.a
+  unfolding ways
+  all-ways = omega (arith, length-take g.a g.way)
+
+  pub live-found : (k : ℕ) → (k < length (take g.a g.way)) × HoldsAt (λ x. live g s x ≡ true) (take g.a g.way) k × AllWithin (λ x. live g s x ≡ false) (take g.a g.way) 0 k
+      → k + 1 ≡ first_live g s
+  unfolding first_live live_at ways
+  live-found k w =
+      let h : k < g.a = omega (arith, all-ways, w.0) in
+      let e : live g s (way_of g (suc k)) ≡ true = rw (there k h) at (w.1 0) in
+      rw (← first-at (live_at g s) g.a k (dead k (omega arith) w.2) h e, lt-ltb k g.a h) (add-one k)
+
+  pub live-none : AllWithin (λ x. live g s x ≡ false) (take g.a g.way) 0 (length (take g.a g.way)) → 0 ≡ first_live g s
+  unfolding first_live ways
+  live-none w = rw (← first-over (live_at g s) g.a g.a (dead g.a (le_refl g.a) (rw all-ways at w)) (le_refl g.a), le-ltb g.a g.a (le_refl g.a))

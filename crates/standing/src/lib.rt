@@ -1,8 +1,7 @@
-// How the bookings of a plan stand: one look at the codes of a state gives the set of each code, and the rules ask these sets.
-// A function that reads an array of the network is lent it beside the network: to read an element of a field would copy the network.
+// How the bookings of a plan stand: a look at the codes of a state gives the set of each code, and the rules ask these sets.
 #![tactic(auto)]
 
-ghost use Rattle.std.specs.Prelude.{◌≡◌, cond, ◌≤◌, ◌<◌};
+ghost use Rattle.std.specs.Prelude.{◌≡◌, ◌≤◌, cond, length};
 ghost use Rattle.std.specs.Int.Bits.{bit_or};
 ghost use Rattle.network.specs.Network.{way_of};
 ghost use Rattle.standing.specs.Standing.{placed, matters, moved, standing_of};
@@ -10,7 +9,7 @@ ghost use Rattle.standing.specs.Ways.{preceding, lost_in, live, first_live};
 
 use network::Network;
 
-// The codes of a booking.
+// The codes of a booking. They stay bytes and become no enum, as the state that C lends holds them.
 pub const FREE: u8 = 0;
 
 pub const REQUESTED: u8 = 1;
@@ -32,6 +31,7 @@ pub struct Standing {
 }
 
 // The set s with the set b put in, or taken out.
+#[tactic(auto, unfolding(crate::specs::Standing::placed))]
 fn placed(here: bool, s: u64, b: u64) -> u64
     ensures { result ≡ placed here s b }
 {
@@ -43,21 +43,17 @@ impl Standing {
     pub fn moved(self, b: u64, c: u8) -> Standing
         ensures { result ≡ moved self b c }
     {
-        let free = placed(c == FREE, self.free, b);
-        let requested = placed(c == REQUESTED, self.requested, b);
-        let held = placed(c == HELD, self.held, b);
-        let lost = placed(c == LOST, self.lost, b);
-        let returning = placed(c == RETURNING, self.returning, b);
         Standing {
-            free,
-            requested,
-            held,
-            lost,
-            returning,
+            free: placed(c == FREE, self.free, b),
+            requested: placed(c == REQUESTED, self.requested, b),
+            held: placed(c == HELD, self.held, b),
+            lost: placed(c == LOST, self.lost, b),
+            returning: placed(c == RETURNING, self.returning, b),
         }
     }
 
     // The open matters: what is requested or returning.
+    #[tactic(auto, unfolding(crate::specs::Standing::matters))]
     pub fn matters(self) -> u64
         ensures { result ≡ matters self }
     {
@@ -65,6 +61,7 @@ impl Standing {
     }
 
     // Whether the way has a lost booking.
+    #[tactic(auto, unfolding(crate::specs::Ways::lost_in))]
     pub fn lost_in(self, way: u64) -> bool
         ensures { result ≡ lost_in self way }
     {
@@ -72,26 +69,22 @@ impl Standing {
     }
 
     // Whether the way has no lost booking and has every held firm one.
-    pub fn is_live(self, g: Network, way: u64) -> bool
-        ensures { result ≡ live g self way }
+    #[tactic(auto, unfolding(crate::specs::Ways::live, crate::specs::Ways::held_firm))]
+    pub fn is_live(self, g: &Network, way: u64) -> bool
+        ensures { result ≡ live g.now self way }
     {
-        if self.lost_in(way) {
-            return false;
-        }
-        sets::subset(self.held & g.firm, way)
+        !self.lost_in(way) && sets::subset(self.held & g.firm, way)
     }
 
-    // The first live way, or 0 if there is none; `ways` are those of the network.
-    pub fn first_live(self, g: Network, ways: &[u64; 16]) -> u8
-        requires { (ways.now ≡ g.way) × (g.a ≤ 16) }
-        ensures { result ≡ first_live g self }
+    // The first live way, or 0 if there is none: a number and no Option, as the state that C lends holds it.
+    pub fn first_live(self, g: &Network) -> u8
+        requires { g.now.a ≤ 16 }
+        ensures { result ≡ first_live g.now self }
     {
-        for k in 0..g.a {
-            if self.is_live(g, ways[k]) {
-                return (k + 1) as u8;
-            }
+        match g.way[..g.a].iter().position(|way| self.is_live(g, *way)) {
+            Some(k) => k as u8 + 1,
+            None => 0,
         }
-        0
     }
 }
 
@@ -102,56 +95,46 @@ fn joined(s: u64, here: bool, b: u64) -> u64
     if here { s | b } else { s }
 }
 
-// One look at the codes: how the first n bookings stand. Each booking is looked at once, so it is put into its set and taken out of none.
-pub fn look(code: [u8; 64], n: usize) -> Standing
-    requires { n ≤ 64 }
-    ensures { result ≡ standing_of code n }
+// One look at the codes: how the bookings stand that have them. Each booking is looked at once, so it is put into its set and taken out of none.
+pub fn look(codes: &[u8]) -> Standing
+    requires { length codes.now ≤ 64 }
+    ensures { result ≡ standing_of codes.now (length codes.now) }
 {
-    let mut free: u64 = 0;
-    let mut requested: u64 = 0;
-    let mut held: u64 = 0;
-    let mut lost: u64 = 0;
-    let mut returning: u64 = 0;
-    for i in 0..n {
-        let c = code[i];
+    let mut s = Standing {
+        free: 0,
+        requested: 0,
+        held: 0,
+        lost: 0,
+        returning: 0,
+    };
+    for (i, code) in codes.iter().enumerate() {
         let b = sets::bit(i);
-        free = joined(free, c == FREE, b);
-        requested = joined(requested, c == REQUESTED, b);
-        held = joined(held, c == HELD, b);
-        lost = joined(lost, c == LOST, b);
-        returning = joined(returning, c == RETURNING, b);
+        s.free = joined(s.free, *code == FREE, b);
+        s.requested = joined(s.requested, *code == REQUESTED, b);
+        s.held = joined(s.held, *code == HELD, b);
+        s.lost = joined(s.lost, *code == LOST, b);
+        s.returning = joined(s.returning, *code == RETURNING, b);
     }
-    Standing {
-        free,
-        requested,
-        held,
-        lost,
-        returning,
-    }
+    s
 }
 
-// The bookings of way w; no way has none.
-pub fn way_of(g: Network, ways: &[u64; 16], w: usize) -> u64
-    requires { (ways.now ≡ g.way) × (w ≤ 16) }
-    ensures { result ≡ way_of g w }
+// The bookings of way w; no way has none. No way is number 0 and no None, as the state that C lends holds it.
+#[tactic(auto, unfolding(network::specs::Network::way_of))]
+pub fn way_of(g: &Network, w: usize) -> u64
+    requires { w ≤ 16 }
+    ensures { result ≡ way_of g.now w }
 {
-    if w == 0 {
-        return 0;
-    }
-    ways[w - 1]
+    if w == 0 { 0 } else { g.way[w - 1] }
 }
 
 // The bookings that precede some member of s. Only the members are looked at; the cut keeps to bookings of the plan.
-pub fn preceding(g: Network, before: &[u64; 64], s: u64) -> u64
-    requires { (before.now ≡ g.before) × (g.n ≤ 64) }
-    ensures { result ≡ preceding g s }
+pub fn preceding(g: &Network, s: u64) -> u64
+    requires { g.now.n ≤ 64 }
+    ensures { result ≡ preceding g.now s }
 {
-    let mut r: u64 = 0;
-    let mut rest = s & sets::all_below(g.n);
-    while rest != 0 {
-        let v = sets::lowest(rest);
-        r = r | before[v];
-        rest = sets::but_lowest(rest);
+    let mut r = 0u64;
+    for v in sets::members_of(s & sets::all_below(g.n)) {
+        r |= g.before[v];
     }
     r
 }

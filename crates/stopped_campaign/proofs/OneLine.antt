@@ -12,11 +12,10 @@ use borrow.Author.Tests.{eqb-true, eq-eqb, ne_eqb, le-leb}
 use Rattle.bounded.proofs.Bools.{which, clash, ◌&◌, and_l, and_r}
 use Rattle.network.specs.declared.Network.{Network}
 use Rattle.run.specs.Orders.{next}
-use Rattle.run.specs.Replies.{Y, N, G, K}
+use Rattle.run.specs.Replies.{Y, N, G, K, Replied}
 use Rattle.run.specs.declared.Run.{Run}
 use Rattle.run.specs.declared.Order.{Order}
 use Rattle.run.specs.declared.Ordered.{Ordered}
-use Rattle.run.specs.declared.Replied.{Replied}
 use Rattle.run.proofs.Cases.{ReplyCase, misfit, confirmed, refused, again, returned, kept, reply-case}
 use Rattle.guarantee.specs.Answers.{pack, kind_of, place_of, order_bits, place9, reply_bits}
 use Rattle.guarantee.specs.Machine.{Asked, next_order, replied, reply_to, answer, after}
@@ -28,7 +27,7 @@ use Rattle.journal_calls.specs.Restart.{line_taken}
 use Rattle.lent_state.specs.Due.{due, order_taken}
 use Rattle.lent_state.proofs.Due.{Silent, waits, is-off, is-flown, Sent, requests, gives_back, nothing, sent, silent-due}
 use Rattle.event_lines.specs.Line.{Q, U, line_text, is_order}
-use Rattle.event_lines.specs.declared.Line.TheVariants.{Given}
+use Rattle.std.specs.Prelude.{Some}
 
 -- ---- lines by the kind of the answer
 
@@ -63,8 +62,8 @@ silent-line {r} {o} q w = let k = silent-kind q w in rw (ne_eqb (kind_of (order_
 
 -- a call on a state: it has a line, which is taken and leads where the call did; or it has none, and changes nothing
 pub data LineCase (g : Network) (r : Run) (q : Asked) : Type 0 where
-  lined : (l b : ℕ) → has_line l b ≡ true → b ≤ 64 → entry_of q (answer g r q) ≡ line_text l b → (line_taken g r (Given l b)).taken ≡ true
-      → (line_taken g r (Given l b)).run ≡ after g r q → LineCase g r q
+  lined : (l b : ℕ) → has_line l b ≡ true → b ≤ 64 → entry_of q (answer g r q) ≡ line_text l b → (line_taken g r (Some (record { letter = l; booking = b }))).taken ≡ true
+      → (line_taken g r (Some (record { letter = l; booking = b }))).run ≡ after g r q → LineCase g r q
   unlined : entry_of q (answer g r q) ≡ [] → after g r q ≡ r → LineCase g r q
 
 module _ (g : Network) (few : g.n ≤ 64) (r : Run) where
@@ -155,8 +154,8 @@ module _ (g : Network) (few : g.n ≤ 64) (r : Run) where
   due-line l b (nothing o q) d = absurd (silent-due l b q d)
 
   -- a line that is taken is the line of its call, and leads where the call does
-  pub taken-line : (l b : ℕ) → (line_taken g r (Given l b)).taken ≡ true
-      → (entry_of (call_on (Given l b)) (answer g r (call_on (Given l b))) ≡ line_text l b) × ((line_taken g r (Given l b)).run ≡ after g r (call_on (Given l b)))
+  pub taken-line : (l b : ℕ) → (line_taken g r (Some (record { letter = l; booking = b }))).taken ≡ true
+      → (entry_of (call_on (Some (record { letter = l; booking = b }))) (answer g r (call_on (Some (record { letter = l; booking = b })))) ≡ line_text l b) × ((line_taken g r (Some (record { letter = l; booking = b }))).run ≡ after g r (call_on (Some (record { letter = l; booking = b }))))
   unfolding line_taken order_taken call_on answer after reply_bits
   taken-line l b t = elim (which (is_order l)) [
     | inl o ↦ (rw o (due-line l b (sent g r) (rw o at t)), rw o)

@@ -15,11 +15,10 @@ use Rattle.network.specs.declared.Network.{Network}
 use Rattle.verdict.proofs.Facts.{Passes}
 use Rattle.standing.specs.Standing.{free, requested, held, lost, returning}
 use Rattle.run.specs.State.{code, put, start}
-use Rattle.run.specs.Replies.{Y, N, G, K}
+use Rattle.run.specs.Replies.{Y, N, G, K, Replied}
 use Rattle.run.specs.declared.Run.{Run}
 use Rattle.run.specs.declared.Order.{Order}
 use Rattle.run.specs.declared.Ordered.{Ordered}
-use Rattle.run.specs.declared.Replied.{Replied}
 use Rattle.run.proofs.Facts.{Sound}
 use Rattle.run.proofs.Cases.{NextCase, blocked, gives, busy, asks, pends, over, flies, next-case, return-facts, request-facts, ReplyCase, misfit, confirmed, refused, again, returned, kept, reply-case}
 use Rattle.guarantee.specs.Answers.{pack, kind_of, place_of, order_bits, place9, reply_bits}

@@ -17,8 +17,8 @@ use Rattle.journal_calls.specs.Journal.{entry_of, journal_of, call_on, calls_fro
 use Rattle.journal_calls.specs.Restart.{line_taken, Replayed, replay_from}
 use Rattle.journal_calls.proofs.Lines.{line-few}
 use Rattle.event_lines.specs.Line.{line_text, line_of}
-use Rattle.event_lines.specs.declared.Line.{Line}
-use Rattle.event_lines.specs.declared.Line.TheVariants.{Given, Misformed}
+use Rattle.std.specs.Prelude.{Option, Some, None}
+use Rattle.event_lines.specs.declared.Event.{Event}
 use Rattle.event_lines.proofs.LineLaws.{line-length, line_read, read-text}
 use Rattle.stopped_campaign.specs.Stopped.{whole_lines}
 use Rattle.stopped_campaign.proofs.OneLine.{lined, unlined, line-case, taken-line}
@@ -36,14 +36,14 @@ unfolding journal_of machine_answers
 journal-more g r q qs = refl
 
 -- the first of several lines
-replay-one : (g : Network) (r : Run) (more i l b : ℕ) (rest : List ℕ) → b ≤ 64 → (line_taken g r (Given l b)).taken ≡ true
-    → replay_from (suc more) i g r (line_text l b ++ rest) ≡ replay_from more (i + 1) g (line_taken g r (Given l b)).run rest
+replay-one : (g : Network) (r : Run) (more i l b : ℕ) (rest : List ℕ) → b ≤ 64 → (line_taken g r (Some (record { letter = l; booking = b }))).taken ≡ true
+    → replay_from (suc more) i g r (line_text l b ++ rest) ≡ replay_from more (i + 1) g (line_taken g r (Some (record { letter = l; booking = b }))).run rest
 unfolding replay_from
 replay-one g r more i l b rest h t =
     let n = line-length l b in
     rw (take_at (line_text l b) rest 6 n, drop_at (line_text l b) rest 6 n, line_read l b (omega arith), t)
 
-misformed-line : (g : Network) (r : Run) → (line_taken g r Misformed).taken ≡ false
+misformed-line : (g : Network) (r : Run) → (line_taken g r None).taken ≡ false
 unfolding line_taken
 misformed-line g r = refl
 
@@ -81,7 +81,7 @@ module _ (g : Network) (few : g.n ≤ 64) (ways : g.a ≤ 16) where
 
   -- a call with its whole line
   cut-one : (r : Run) (i : ℕ) (q : Asked) (qs : List Asked) (c l b : ℕ) → 6 ≤ c → b ≤ 64 → entry_of q (answer g r q) ≡ line_text l b
-      → (line_taken g r (Given l b)).taken ≡ true → (line_taken g r (Given l b)).run ≡ after g r q → Cut g (after g r q) (i + 1) qs (c - 6) → Cut g r i (q ∷ qs) c
+      → (line_taken g r (Some (record { letter = l; booking = b }))).taken ≡ true → (line_taken g r (Some (record { letter = l; booking = b }))).run ≡ after g r q → Cut g (after g r q) (i + 1) qs (c - 6) → Cut g r i (q ∷ qs) c
   unfolding final whole_lines
   cut-one r i q qs c l b h few-b e t s k =
       let rest : List ℕ = machine_journal g (after g r q) qs in
@@ -106,7 +106,7 @@ module _ (g : Network) (few : g.n ≤ 64) (ways : g.a ≤ 16) where
   cut r w i (q ∷ qs) c = elim (line-case g few r (omega arith) q) [
     | lined l b has few-b e t s ↦ elim (split? c 6) [
       | inl h ↦ cut_short r i (q ∷ qs) c h (rw e (omega (arith, line-length l b, length-append (line_text l b) (machine_journal g (after g r q) qs))))
-      | inr h ↦ cut-one r i q qs c l b h few-b e t s (cut (after g r q) (rw (← s) (line-few g ways r w (Given l b))) (i + 1) qs (c - 6))
+      | inr h ↦ cut-one r i q qs c l b h few-b e t s (cut (after g r q) (rw (← s) (line-few g ways r w (Some (record { letter = l; booking = b })))) (i + 1) qs (c - 6))
     ]
     | unlined e s ↦ cut-none r i q qs c e s (cut r w i qs c)
   ]
@@ -118,26 +118,26 @@ module _ (g : Network) (few : g.n ≤ 64) (ways : g.a ≤ 16) where
     pub lines : take (6 * n) journal ≡ machine_journal g r (calls_from n journal)
 
   -- one more line in front
-  one_more : (r : Run) (i n : ℕ) (journal : List ℕ) (l b : ℕ) → 1 ≤ i → line_of (take 6 journal) ≡ Given l b → (line_taken g r (Given l b)).taken ≡ true
-      → Replays (after g r (call_on (Given l b))) (i + 1) n (drop 6 journal) → Replays r i (suc n) journal
+  one_more : (r : Run) (i n : ℕ) (journal : List ℕ) (l b : ℕ) → 1 ≤ i → line_of (take 6 journal) ≡ Some (record { letter = l; booking = b }) → (line_taken g r (Some (record { letter = l; booking = b }))).taken ≡ true
+      → Replays (after g r (call_on (Some (record { letter = l; booking = b })))) (i + 1) n (drop 6 journal) → Replays r i (suc n) journal
   unfolding replay_from calls_from final
   one_more r i n journal l b h e t k =
       let f = taken-line g few r l b t in
       let w : 6 * suc n ≡ 6 + 6 * n = omega arith in
       record {
         state = rw (e, t, f.1) k.state;
-        lines = rw (w, take-add 6 (6 * n) journal, k.lines, e, journal-more g r (call_on (Given l b)) (calls_from n (drop 6 journal)), f.0, read-text (take 6 journal) l b e);
+        lines = rw (w, take-add 6 (6 * n) journal, k.lines, e, journal-more g r (call_on (Some (record { letter = l; booking = b }))) (calls_from n (drop 6 journal)), f.0, read-text (take 6 journal) l b e);
       }
 
   by-line : (r : Run) (i n : ℕ) (journal : List ℕ) → 1 ≤ i
       → ((s : Run) → (replay_from n (i + 1) g s (drop 6 journal)).wrong ≡ 0 → Replays s (i + 1) n (drop 6 journal))
-      → (line : Line) → line_of (take 6 journal) ≡ line → (replay_from (suc n) i g r journal).wrong ≡ 0 → Replays r i (suc n) journal
+      → (line : Option Event) → line_of (take 6 journal) ≡ line → (replay_from (suc n) i g r journal).wrong ≡ 0 → Replays r i (suc n) journal
   unfolding replay_from
-  by-line r i n journal h k (Given l b) e z = elim (which (line_taken g r (Given l b)).taken) [
-    | inl t ↦ (let f = taken-line g few r l b t in one_more r i n journal l b h e t (k (after g r (call_on (Given l b))) (rw (e, t, f.1) at z)))
+  by-line r i n journal h k (Some v) e z = elim (which (line_taken g r (Some v)).taken) [
+    | inl t ↦ (let f = taken-line g few r v.letter v.booking t in one_more r i n journal v.letter v.booking h e t (k (after g r (call_on (Some v))) (rw (e, t, f.1) at z)))
     | inr t ↦ absurd (let y : i ≡ 0 = rw (e, t) at z in omega arith)
   ]
-  by-line r i n journal h k Misformed e z = absurd (let y : i ≡ 0 = rw (e, misformed-line g r) at z in omega arith)
+  by-line r i n journal h k None e z = absurd (let y : i ≡ 0 = rw (e, misformed-line g r) at z in omega arith)
 
   -- a replay that finds nothing wrong
   pub replayed : (r : Run) (i n : ℕ) (journal : List ℕ) → 1 ≤ i → (replay_from n i g r journal).wrong ≡ 0 → Replays r i n journal

@@ -45,18 +45,18 @@ module _ (s j bs : List ℕ) where
   Ends x after = (x ≡ resume_bits s j) × (after ≡ cond (leb (length j / 6) most_lines) (restart_leaves s j bs) bs)
 
   -- a journal that is too long: the sheet is judged first
-  module _ (long : most_lines < length j / 6) (x k : ℕ) (e : x ≡ check_call s) (ek : k ≡ kind_of x) where
+  module _ (long : most_lines < length j / 6) (x : ℕ) (e : x ≡ check_call s) where
     off : leb (length j / 6) most_lines ≡ false
     off = lt-leb (length j / 6) most_lines long
 
-    pub sheet-refused : k ≡ 0 → Ends x bs
+    pub sheet-refused : kind_of x ≡ 0 → Ends x bs
     unfolding resume_bits kind_of pack
     sheet-refused z = elim (which (sheet_passes s)) [
       | inl p ↦ (let y = accepted s p in absurd (omega arith))
       | inr p ↦ (rw p e, rw off)
     ]
 
-    pub too_long : k ≢ 0 → (y : ℕ) → y ≡ pack 0 14 0 → Ends y bs
+    pub too_long : kind_of x ≢ 0 → (y : ℕ) → y ≡ pack 0 14 0 → Ends y bs
     unfolding resume_bits kind_of
     too_long z y q = elim (which (sheet_passes s)) [
       | inl p ↦ (rw (p, off) q, rw off)
@@ -131,22 +131,22 @@ module _ (s j : List ℕ) where
 
 -- ---- what is printed
 
-module _ (s j d : List ℕ) (long : longest_listing ≤ length d) (bits : ℕ) (e : bits ≡ resume_bits s j) (k : ℕ) (ek : k ≡ kind_of bits) where
+module _ (s j d : List ℕ) (long : longest_listing ≤ length d) (bits : ℕ) (e : bits ≡ resume_bits s j) where
   -- a refusal
-  pub printed : k ≡ 0 → (n : ℕ) → n ≡ length (printed_text bits) → (out : List ℕ) → out ≡ sets d 0 (printed_text bits)
+  pub printed : kind_of bits ≡ 0 → (n : ℕ) → n ≡ length (printed_text bits) → (out : List ℕ) → out ≡ sets d 0 (printed_text bits)
       → (n ≡ length (story_text s j)) × (out ≡ sets d 0 (story_text s j))
   unfolding story_text
   printed z n p out q =
-      let y : eqb (kind_of (resume_bits s j)) 0 ≡ true = eq-eqb (kind_of (resume_bits s j)) 0 (rw (← e, ← ek) z) in
+      let y : eqb (kind_of (resume_bits s j)) 0 ≡ true = eq-eqb (kind_of (resume_bits s j)) 0 (rw (← e) z) in
       (rw (y, ← e) p, rw (y, ← e) q)
 
   -- the listing, which the second call has written
-  pub told : k ≢ 0 → (lent bs : List ℕ) → length lent ≡ 65 → bs ≡ cond (leb (length j / 6) most_lines) (restart_leaves s j lent) lent
+  pub told : kind_of bits ≢ 0 → (lent bs : List ℕ) → length lent ≡ 65 → bs ≡ cond (leb (length j / 6) most_lines) (restart_leaves s j lent) lent
       → (x : ℕ) → x ≡ passed_call s bs (length d) → (after : List ℕ) → after ≡ passed_leaves s bs d → (n : ℕ) → n ≡ place_of x
       → (n ≡ length (story_text s j)) × (after ≡ sets d 0 (story_text s j))
   unfolding place_of pack
   told z lent bs h w x q after a n p =
-      let r = resumed-e s j (rw (← e, ← ek) z) in
+      let r = resumed-e s j (rw (← e) z) in
       let b : bs ≡ bytes_of (state s j r) = w ∙ left_is s j r lent h in
       let k = state-sound s j r in
       let t = listed s r.passes (state s j r) k d long in

@@ -16,10 +16,9 @@ use Rattle.network.specs.declared.Network.{Network}
 use Rattle.verdict.proofs.Facts.{Passes}
 use Rattle.standing.specs.Standing.{free, requested, held, lost, returning}
 use Rattle.run.specs.State.{code, put}
-use Rattle.run.specs.Replies.{N, settle}
+use Rattle.run.specs.Replies.{N, settle, Replied}
 use Rattle.run.specs.declared.Run.{Run}
 use Rattle.run.specs.declared.Ordered.{Ordered}
-use Rattle.run.specs.declared.Replied.{Replied}
 use Rattle.run.proofs.Facts.{Sound}
 use Rattle.run.proofs.Cases.{NextCase, blocked, gives, busy, asks, pends, over, flies, next-case, return-facts, request-facts, ReplyCase, misfit, confirmed, refused, again, returned, kept, reply-case}
 use Rattle.guarantee.specs.Answers.{pack, place9, reply_bits}

@@ -6,25 +6,25 @@ use mathlib.Core.Bool.{Bool, true, false, not, ◌&&◌, cond}
 use mathlib.Core.List.{List}
 use Prim.Native.Nat.{ℕ, suc, ◌+◌, ◌≤◌, ◌<◌}
 use native.Mathlib.Nat.{le_refl}
-use native.Mathlib.Omega.{arith}
 use native.Mathlib.Numerals.{add-one}
-use borrow.Author.Tests.{lt-ltb, le-ltb}
+use borrow.Author.Tests.{lt-ltb, le-ltb, ltb-true}
 use lib.Dec.{ltb}
 use lib.Bits.{bit_and}
 use lib.ListN.{get_or}
-use Rattle.bounded.specs.Bounded.{any, first}
+use Rattle.bounded.specs.Bounded.{any, first, sought}
 use Rattle.bounded.proofs.Bools.{clash, and_l, and_r, and-no-l, and-no-r, and-go, ◌&◌}
 use Rattle.bounded.proofs.Tests.{any-i, any-o}
-use Rattle.bounded.proofs.First.{first-least}
+use Rattle.bounded.proofs.First.{first-least, first-none}
 use Rattle.bounded.proofs.Loops.{SoFar, first-at, first-over}
 use Rattle.sets.specs.Sets.{member, some, all_below}
 use Rattle.sets.proofs.Facts.{both-e, both-i, empty-n, some-e, some-on, some-off}
 use Rattle.sets.proofs.Whole.{cut_at, cut-e}
 use Rattle.network.specs.declared.Network.{Network}
-use Rattle.verdict.specs.declared.Verdict.{Verdict}
-use Rattle.verdict.specs.declared.Verdict.TheVariants.{Pass, Unclosed, Unused, Repeated, Stranding}
+use Rattle.std.specs.Prelude.{Some, None, Ok, Err}
+use Rattle.verdict.specs.declared.Fault.TheVariants.{Unclosed, Unused, Repeated, Stranding}
 use Rattle.network.specs.Network.{way_of, in_way, firm, exposed}
-use Rattle.verdict.specs.Check.{unclosed, unused, repeated, stays, staying, later_refuge, stranding, strands, first_stranding}
+use Rattle.verdict.specs.Check.{Verdict, unclosed, unused, repeated, stays, staying, later_refuge, stranding, strands, first_stranding}
+use Rattle.bounded.proofs.Sought.{found, missed}
 
 -- ---- 8: one way and one booking
 
@@ -70,37 +70,38 @@ module _ (g : Network) where
       let f = and_l (firm g t.0) _ (and_l (firm g t.0 && in_way g (suc k) t.0) _ t.2) in
       clash (firm g t.0) f (empty-n g.firm t.0 z))
 
-  pub none-strand : (k : ℕ) → SoFar (strands g) k → g.a ≤ k → Pass ≡ first_stranding g
+  pub none-strand : (k : ℕ) → SoFar (strands g) k → g.a ≤ k → Ok tt ≡ first_stranding g
   none-strand k s h = let e : first (strands g) g.a ≡ g.a = sym (first-over (strands g) g.a k s h) in rw (e, le-ltb g.a g.a (le_refl g.a))
 
   -- x is the lowest booking of way k + 1 that strands
-  module _ (k x : ℕ) (e : x ≡ first (stranding g (suc k)) g.n) where
-    pub one-strands : SoFar (strands g) k → k < g.a → x < g.n → Stranding (k + 1) x ≡ first_stranding g
-    unfolding strands
-    one-strands s h l =
-        let f : stranding g (suc k) x ≡ true = rw e ((first-least (stranding g (suc k)) g.n).at (omega arith)) in
-        let p : k ≡ first (strands g) g.a = first-at (strands g) g.a k s h (any-i (stranding g (suc k)) g.n x l f) in
-        rw (← p, lt-ltb k g.a h, ← e, add-one)
+  pub one-strands : (k x : ℕ) → Some x ≡ sought (stranding g (suc k)) g.n → SoFar (strands g) k → k < g.a → Err (Stranding (k + 1) x) ≡ first_stranding g
+  unfolding strands
+  one-strands k x e s h =
+      let t = found (stranding g (suc k)) g.n x e in
+      let l : first (stranding g (suc k)) g.n < g.n = ltb-true _ _ t.0 in
+      let f : stranding g (suc k) (first (stranding g (suc k)) g.n) ≡ true = (first-least (stranding g (suc k)) g.n).at l in
+      let p : k ≡ first (strands g) g.a = first-at (strands g) g.a k s h (any-i (stranding g (suc k)) g.n (first (stranding g (suc k)) g.n) l f) in
+      rw (← p, lt-ltb k g.a h, ← t.1, add-one)
 
-    pub no-strand : g.n ≤ x → strands g k ≡ false
-    unfolding strands
-    no-strand h = any-o (stranding g (suc k)) g.n (λ i l f. clash (stranding g (suc k) i) f ((first-least (stranding g (suc k)) g.n).before i (omega arith)))
+  pub no-strand : (k : ℕ) → None ≡ sought (stranding g (suc k)) g.n → strands g k ≡ false
+  unfolding strands
+  no-strand k e = any-o (stranding g (suc k)) g.n (λ i l f. clash (stranding g (suc k) i) f (first-none (stranding g (suc k)) g.n (missed (stranding g (suc k)) g.n e) i l))
 
 -- ---- the verdict: what is left of the check from each refusal on
 
 abbrev pub from-7 : Network → Verdict
-from-7 g = let k = first (repeated g) g.a in cond (ltb k g.a) (Repeated (suc k)) (first_stranding g)
+from-7 g = let k = first (repeated g) g.a in cond (ltb k g.a) (Err (Repeated (suc k))) (first_stranding g)
 
 abbrev pub from-6 : Network → Verdict
-from-6 g = let b = first (unused g) g.n in cond (ltb b g.n) (Unused b) (from-7 g)
+from-6 g = let b = first (unused g) g.n in cond (ltb b g.n) (Err (Unused b)) (from-7 g)
 
 abbrev pub from-5 : Network → Verdict
-from-5 g = let k = first (unclosed g) g.a in cond (ltb k g.a) (Unclosed (suc k)) (from-6 g)
+from-5 g = let k = first (unclosed g) g.a in cond (ltb k g.a) (Err (Unclosed (suc k))) (from-6 g)
 
--- r is the first below n that passes f; v says so; w is what is left
-module _ (f : ℕ → Bool) (n r : ℕ) (v : ℕ → Verdict) (w : Verdict) (e : r ≡ first f n) where
-  pub found : r < n → v r ≡ cond (ltb (first f n) n) (v (first f n)) w
-  found h = rw (← e, lt-ltb r n h)
+-- the first below n that passes f, if it is found, makes the verdict v; else it is w
+module _ (f : ℕ → Bool) (n : ℕ) (v : ℕ → Verdict) (w : Verdict) where
+  pub halted : (r : ℕ) → Some r ≡ sought f n → v r ≡ cond (ltb (first f n) n) (v (first f n)) w
+  halted r e = let t = found f n r e in rw (t.0, t.1)
 
-  pub passed : n ≤ r → w ≡ cond (ltb (first f n) n) (v (first f n)) w
-  passed h = rw (← e, le-ltb r n h)
+  pub passed : None ≡ sought f n → w ≡ cond (ltb (first f n) n) (v (first f n)) w
+  passed e = rw (missed f n e)

@@ -2,6 +2,7 @@
 pub mod Facts
 pub mod Pass
 pub mod Parts
+pub mod Listed
 pub mod Exits
 pub mod Places
 pub mod Refuges

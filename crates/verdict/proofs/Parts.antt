@@ -11,12 +11,11 @@ use native.Mathlib.Omega.{arith}
 use borrow.Author.Tests.{eq-eqb, ne_eqb, lt-ltb, le-ltb}
 use lib.Dec.{eqb, ltb}
 use lib.Bits.{bit_and, bit_or, and_le_l, or_lt}
-use lib.ListN.{length, set, get_or, replicate, length-set, get_or-replicate}
+use lib.ListN.{length, set, get_or, length-set}
 use lib.Seq.{get_or-set_same, get_or-set_other}
 use Rattle.bounded.specs.Bounded.{imp, any, all, first}
 use Rattle.bounded.proofs.Bools.{which, same?, split?, cond-on, cond-off, and_l, and-no-l, and-no-r, and-go, and-true, and-mid, and_assoc, or_swap, neither, ◌&◌}
-use Rattle.bounded.proofs.Tests.{any-suc, any-ext, all-ext}
-use Rattle.bounded.proofs.First.{first-ext}
+use Rattle.bounded.proofs.Tests.{any-ext, all-ext}
 use Rattle.sets.specs.Sets.{member, gather, kept, subset_of, always, all_below, without, but_lowest}
 use Rattle.sets.proofs.Members.{member-and, member-or, member-power}
 use Rattle.sets.proofs.Gather.{gather-is, gather-lt, member-gather}
@@ -25,13 +24,10 @@ use Rattle.sets.proofs.Facts.{empty-n}
 use Rattle.sets.proofs.Walk.{lowest-in, but-lowest-fits, but-lowest-at, every, every-zero, every-lowest, every-gather}
 use Rattle.network.specs.declared.Network.{Network}
 use Rattle.network.specs.Network.{way_of, in_way, before, pre, firm, exposed}
-use Rattle.verdict.specs.Check.{circular, gap, unclosed, used_by, unused, same_way, repeated, stays, staying, leads_to, settled_by, safe, refuge, later_refuge}
-use Rattle.verdict.specs.Parts.{may_stay, stay_at, taken_at, TakenFrom, Upto, Stay}
+use Rattle.verdict.specs.Check.{gap, unclosed, stays, staying, leads_to, settled_by, safe, refuge, later_refuge}
+use Rattle.verdict.specs.Parts.{may_stay, stay_at, taken_at, TakenFrom, Upto, Stay, shelters}
 
--- ---- 4 to 7
-
-unfoldable pub circular_in : List ℕ → ℕ → Bool
-circular_in ps b = member (get_or ps b 0) b
+-- ---- 5
 
 unfoldable pub gap_in : List ℕ → ℕ → ℕ → Bool
 gap_in ps s v = member s v && not (subset_of (get_or ps v 0) s)
@@ -46,38 +42,9 @@ module _ (ps : List ℕ) (s : ℕ) where
   unfolding gap_in
   gap-on v m r e = ap not e ∙ and-go (member s v) _ m
 
-unfoldable pub in_way_at : List ℕ → ℕ → ℕ → Bool
-in_way_at ws b k = member (get_or ws k 0) b
-
-unfoldable pub used_in : List ℕ → ℕ → ℕ → Bool
-used_in ws a b = any (in_way_at ws b) a
-
-unfoldable pub lacks : ℕ → ℕ → Bool
-lacks s b = not (member s b)
-
-unfoldable pub same_in : List ℕ → ℕ → ℕ → Bool
-same_in ws k j = eqb (get_or ws j 0) (get_or ws k 0)
-
-pub used_turn : (ws : List ℕ) (s k : ℕ) → ((b : ℕ) → member s b ≡ used_in ws k b) → (b : ℕ) → member (bit_or s (get_or ws k 0)) b ≡ used_in ws (k + 1) b
-unfolding used_in in_way_at
-used_turn ws s k h b = member-or s (get_or ws k 0) b ∙ ap (λ (x : Bool). x || member (get_or ws k 0) b) (h b) ∙ sym (any-suc (in_way_at ws b) k)
-
-module _ (g : Network) where
-  pub circular-is : (ps : List ℕ) → ps ≡ g.before → first (circular_in ps) g.n ≡ first (circular g) g.n
-  unfolding circular_in circular pre before
-  circular-is ps e = rw e
-
-  pub unclosed-is : (ws ps : List ℕ) (k : ℕ) → ws ≡ g.way → ps ≡ g.before → any (gap_in ps (get_or ws k 0)) g.n ≡ unclosed g k
-  unfolding gap_in unclosed gap in_way way_of before
-  unclosed-is ws ps k ew ep = rw (ew, ep)
-
-  pub unused-is : (ws : List ℕ) (s : ℕ) → ws ≡ g.way → ((b : ℕ) → member s b ≡ used_in ws g.a b) → first (lacks s) g.n ≡ first (unused g) g.n
-  unfolding used_in in_way_at lacks unused used_by in_way way_of
-  unused-is ws s e h = rw e at (first-ext (lacks s) _ g.n (λ b l. ap not (h b)))
-
-  pub repeated-is : (ws : List ℕ) (k : ℕ) → ws ≡ g.way → any (same_in ws k) k ≡ repeated g k
-  unfolding same_in repeated same_way way_of
-  repeated-is ws k e = rw e
+pub unclosed-is : (g : Network) (ws ps : List ℕ) (k : ℕ) → ws ≡ g.way → ps ≡ g.before → any (gap_in ps (get_or ws k 0)) g.n ≡ unclosed g k
+unfolding gap_in unclosed gap in_way way_of before
+unclosed-is g ws ps k ew ep = rw (ew, ep)
 
 -- ---- 8: what may stay when x is lost
 
@@ -120,10 +87,10 @@ module _ (g : Network) where
       ])
 
   -- all firm bookings, before any is taken out
-  pub stay_none : (ss : List ℕ) → g.n ≤ 64 → ss ≡ replicate 64 (bit_and g.firm (all_below g.n)) → Thinned g 0 ss
+  pub stay_none : (ss : List ℕ) → ((x : ℕ) → x < g.n → get_or ss x 0 ≡ bit_and g.firm (all_below g.n)) → Thinned g 0 ss
   unfolding firm
-  stay_none ss n e x h =
-      rw e (get_or-replicate 64 x (bit_and g.firm (all_below g.n)) 0 (omega arith))
+  stay_none ss e x h =
+      e x h
       ∙ gather-is (left_at g 0 x) g.n _ (cut-lt g.firm (all_below g.n) g.n refl)
       (λ i l. cut_at g.firm (all_below g.n) g.n refl i l ∙ sym (left-later i x 0 (omega arith)))
 
@@ -249,10 +216,6 @@ module _ (g : Network) (w x s : ℕ) (e : s ≡ staying g w x) where
       (λ y l. member-or b r y ∙ ap₂ (λ (p q : Bool). p || q) (ap (λ (t : ℕ). member t y) eb) (h y l ∙ leading-is us n up y))
 
 -- ---- 8: the refuges
-
--- way k + 1 comes after way w, has all of s, and its exposed bookings are in ok
-unfoldable pub shelters : ℕ → ℕ → ℕ → List ℕ → ℕ → ℕ → Bool
-shelters s ok e ws w k = ltb w (suc k) && (subset_of s (get_or ws k 0) && subset_of (bit_and e (get_or ws k 0)) ok)
 
 module _ (s ok e : ℕ) (ws : List ℕ) (w : ℕ) where
   pub not-later : (k : ℕ) → k < w → shelters s ok e ws w k ≡ false

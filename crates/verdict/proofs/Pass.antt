@@ -14,10 +14,10 @@ use Rattle.bounded.proofs.First.{first-none, none_found}
 use Rattle.sets.specs.Sets.{member, subset_of}
 use Rattle.sets.proofs.Facts.{gather-i, subset-e, some-i}
 use Rattle.network.specs.Network.{way_of, in_way, before, pre, exposed}
-use Rattle.verdict.specs.Check.{circular, gap, unclosed, unused, repeated, stays, staying, leads_to, settled_by, safe, refuge, later_refuge, stranding, strands, check, verdict_number}
+use Rattle.verdict.specs.Check.{Verdict, circular, gap, unclosed, unused, repeated, stays, staying, leads_to, settled_by, safe, refuge, later_refuge, stranding, strands, check, verdict_number}
 use Rattle.network.specs.declared.Network.{Network}
-use Rattle.verdict.specs.declared.Verdict.{Verdict}
-use Rattle.verdict.specs.declared.Verdict.TheVariants.{Pass, Circular, Unclosed, Unused, Repeated, Stranding}
+use Rattle.std.specs.Prelude.{Ok, Err}
+use Rattle.verdict.specs.declared.Fault.TheVariants.{Circular, Unclosed, Unused, Repeated, Stranding}
 use Rattle.verdict.proofs.Facts.{Stays, Refuge, Passes}
 use Rattle.network.proofs.Facts.{Shape, some_way}
 
@@ -65,37 +65,37 @@ module _ (t : ℕ) (g : Network) where
 
   -- the check from each of its tests on
   at_8 : Verdict
-  at_8 = cond (ltb k8 g.a) (Stranding (suc k8) (first (stranding g (suc k8)) g.n)) Pass
+  at_8 = cond (ltb k8 g.a) (Err (Stranding (suc k8) (first (stranding g (suc k8)) g.n))) (Ok tt)
 
   at_7 : Verdict
-  at_7 = cond (ltb k7 g.a) (Repeated (suc k7)) at_8
+  at_7 = cond (ltb k7 g.a) (Err (Repeated (suc k7))) at_8
 
   at-6 : Verdict
-  at-6 = cond (ltb b6 g.n) (Unused b6) at_7
+  at-6 = cond (ltb b6 g.n) (Err (Unused b6)) at_7
 
   at_5 : Verdict
-  at_5 = cond (ltb k5 g.a) (Unclosed (suc k5)) at-6
+  at_5 = cond (ltb k5 g.a) (Err (Unclosed (suc k5))) at-6
 
   module _ (z : Past t (verdict_number (check g))) where
     past-4 : 4 ≤ t → (ltb b4 g.n ≡ false) × Past t (verdict_number at_5)
     unfolding check verdict_number b4 k5 b6 k7 k8 at_5 at-6 at_7 at_8
-    past-4 o = beyond t 4 (ltb b4 g.n) (Circular b4) at_5 refl (omega arith) o z
+    past-4 o = beyond t 4 (ltb b4 g.n) (Err (Circular b4)) at_5 refl (omega arith) o z
 
     past-5 : 5 ≤ t → (ltb k5 g.a ≡ false) × Past t (verdict_number at-6)
     unfolding verdict_number at_5
-    past-5 o = beyond t 5 (ltb k5 g.a) (Unclosed (suc k5)) at-6 refl (omega arith) o (past-4 (omega arith)).1
+    past-5 o = beyond t 5 (ltb k5 g.a) (Err (Unclosed (suc k5))) at-6 refl (omega arith) o (past-4 (omega arith)).1
 
     past-6 : 6 ≤ t → (ltb b6 g.n ≡ false) × Past t (verdict_number at_7)
     unfolding verdict_number at-6
-    past-6 o = beyond t 6 (ltb b6 g.n) (Unused b6) at_7 refl (omega arith) o (past-5 (omega arith)).1
+    past-6 o = beyond t 6 (ltb b6 g.n) (Err (Unused b6)) at_7 refl (omega arith) o (past-5 (omega arith)).1
 
     past-7 : 7 ≤ t → (ltb k7 g.a ≡ false) × Past t (verdict_number at_8)
     unfolding verdict_number at_7
-    past-7 o = beyond t 7 (ltb k7 g.a) (Repeated (suc k7)) at_8 refl (omega arith) o (past-6 (omega arith)).1
+    past-7 o = beyond t 7 (ltb k7 g.a) (Err (Repeated (suc k7))) at_8 refl (omega arith) o (past-6 (omega arith)).1
 
-    past-8 : 8 ≤ t → (ltb k8 g.a ≡ false) × Past t (verdict_number Pass)
+    past-8 : 8 ≤ t → (ltb k8 g.a ≡ false) × Past t (verdict_number (Ok tt))
     unfolding verdict_number at_8
-    past-8 o = beyond t 8 (ltb k8 g.a) (Stranding (suc k8) (first (stranding g (suc k8)) g.n)) Pass refl (omega arith) o (past-7 (omega arith)).1
+    past-8 o = beyond t 8 (ltb k8 g.a) (Err (Stranding (suc k8) (first (stranding g (suc k8)) g.n))) (Ok tt) refl (omega arith) o (past-7 (omega arith)).1
 
     pub clean-to : Clean-to t g
     unfolding strands b4 k5 b6 k7 k8
@@ -110,11 +110,11 @@ module _ (t : ℕ) (g : Network) where
   pub clean-past : Clean-to t g → Past t (verdict_number (check g))
   unfolding check verdict_number strands b4 k5 b6 k7 k8 at_5 at-6 at_7 at_8
   clean-past c =
-      onward t 4 (ltb b4 g.n) (Circular b4) at_5 refl (omega arith) (λ o. none_found (circular g) g.n (c.four o))
-      (onward t 5 (ltb k5 g.a) (Unclosed (suc k5)) at-6 refl (omega arith) (λ o. none_found (unclosed g) g.a (c.five o))
-      (onward t 6 (ltb b6 g.n) (Unused b6) at_7 refl (omega arith) (λ o. none_found (unused g) g.n (c.six o))
-      (onward t 7 (ltb k7 g.a) (Repeated (suc k7)) at_8 refl (omega arith) (λ o. none_found (repeated g) g.a (c.seven o))
-      (onward t 8 (ltb k8 g.a) (Stranding (suc k8) (first (stranding g (suc k8)) g.n)) Pass refl (omega arith)
+      onward t 4 (ltb b4 g.n) (Err (Circular b4)) at_5 refl (omega arith) (λ o. none_found (circular g) g.n (c.four o))
+      (onward t 5 (ltb k5 g.a) (Err (Unclosed (suc k5))) at-6 refl (omega arith) (λ o. none_found (unclosed g) g.a (c.five o))
+      (onward t 6 (ltb b6 g.n) (Err (Unused b6)) at_7 refl (omega arith) (λ o. none_found (unused g) g.n (c.six o))
+      (onward t 7 (ltb k7 g.a) (Err (Repeated (suc k7))) at_8 refl (omega arith) (λ o. none_found (repeated g) g.a (c.seven o))
+      (onward t 8 (ltb k8 g.a) (Err (Stranding (suc k8) (first (stranding g (suc k8)) g.n))) (Ok tt) refl (omega arith)
       (λ o. none_found (strands g) g.a (λ k h. any-o (stranding g (suc k)) g.n (λ x l e. clash (stranding g (suc k) x) e (c.eight o k x h l)))) (inl refl)))))
 
 -- ---- what the faults that are absent leave

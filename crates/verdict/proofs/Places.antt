@@ -10,9 +10,9 @@ use Rattle.bounded.specs.Bounded.{first}
 use Rattle.bounded.proofs.Bools.{by_cond}
 use Rattle.bounded.proofs.First.{first-least}
 use Rattle.network.specs.declared.Network.{Network}
-use Rattle.verdict.specs.declared.Verdict.{Verdict}
-use Rattle.verdict.specs.declared.Verdict.TheVariants.{Pass, Circular, Unclosed, Unused, Repeated, Stranding}
-use Rattle.verdict.specs.Check.{circular, unclosed, unused, repeated, stranding, strands, check, verdict_place}
+use Rattle.std.specs.Prelude.{Ok, Err}
+use Rattle.verdict.specs.declared.Fault.TheVariants.{Circular, Unclosed, Unused, Repeated, Stranding}
+use Rattle.verdict.specs.Check.{Verdict, circular, unclosed, unused, repeated, stranding, strands, check, verdict_place}
 
 record Small-verdict (v : Verdict) : Type 0 where
   small : verdict_place v < 65536
@@ -26,22 +26,22 @@ verdict-fits g hn ha =
     (λ _. by_cond Small-verdict (double (first (repeated g) g.a))
     (λ _. by_cond Small-verdict (point (first (strands g) g.a)) (λ _. none)))))
   where
-    circle : (b : ℕ) → ltb b g.n ≡ true → Small-verdict (Circular b)
+    circle : (b : ℕ) → ltb b g.n ≡ true → Small-verdict (Err (Circular b))
     circle b e = record { small = omega (arith, ltb-true b g.n e) }
 
-    gap : (k : ℕ) → ltb k g.a ≡ true → Small-verdict (Unclosed (suc k))
+    gap : (k : ℕ) → ltb k g.a ≡ true → Small-verdict (Err (Unclosed (suc k)))
     gap k e = record { small = omega (arith, ltb-true k g.a e) }
 
-    idle : (b : ℕ) → ltb b g.n ≡ true → Small-verdict (Unused b)
+    idle : (b : ℕ) → ltb b g.n ≡ true → Small-verdict (Err (Unused b))
     idle b e = record { small = omega (arith, ltb-true b g.n e) }
 
-    double : (k : ℕ) → ltb k g.a ≡ true → Small-verdict (Repeated (suc k))
+    double : (k : ℕ) → ltb k g.a ≡ true → Small-verdict (Err (Repeated (suc k)))
     double k e = record { small = omega (arith, ltb-true k g.a e) }
 
-    point : (k : ℕ) → ltb k g.a ≡ true → Small-verdict (Stranding (suc k) (first (stranding g (suc k)) g.n))
+    point : (k : ℕ) → ltb k g.a ≡ true → Small-verdict (Err (Stranding (suc k) (first (stranding g (suc k)) g.n)))
     point k e = record { small = omega (arith, ltb-true k g.a e, (first-least (stranding g (suc k)) g.n).high) }
 
-    none : Small-verdict Pass
+    none : Small-verdict (Ok tt)
     none = record { small = omega arith }
 
 pub verdict-small : (g : Network) → g.n ≤ 64 → g.a ≤ 16 → verdict_place (check g) < 65536

@@ -1,12 +1,12 @@
 -- The check, over a network whose precedence is closed: refusals 4 to 8, each with its place.
 -- Assumes nothing.
-use Rattle.std.specs.Prelude.{Bool, not, ◌&&◌, ◌||◌, cond, ℕ, suc, ◌+◌, ◌*◌, eqb, ltb}
+use Rattle.std.specs.Prelude.{Bool, not, ◌&&◌, ◌||◌, cond, ℕ, suc, ◌+◌, ◌*◌, eqb, ltb, ⊤, Result, Ok, Err}
 use Rattle.bounded.specs.Bounded.{imp, any, all, first}
 use Rattle.sets.specs.Sets.{gather, subset_of, some}
 use Rattle.network.specs.Network.{way_of, in_way, before, pre, firm, exposed}
 use Rattle.network.specs.declared.Network.{Network}
-use Rattle.verdict.specs.declared.Verdict.{Verdict}
-use Rattle.verdict.specs.declared.Verdict.TheVariants.{Pass, Circular, Unclosed, Unused, Repeated, Stranding}
+use Rattle.verdict.specs.declared.Fault.{Fault}
+use Rattle.verdict.specs.declared.Fault.TheVariants.{Circular, Unclosed, Unused, Repeated, Stranding}
 
 -- ---- 4 to 7. The ways are searched by index: k stands for way k + 1
 
@@ -73,13 +73,16 @@ stranding g w x = (exposed g x && in_way g w x) && (some (staying g w x) && not 
 unfoldable pub strands : Network → ℕ → Bool
 strands g k = any (stranding g (suc k)) g.n
 
--- ---- the verdict
+-- ---- the verdict: the network passes, or it has a fault
+
+abbrev pub Verdict : Type 0
+Verdict = Result ⊤ Fault
 
 -- the first way in which some booking strands, and the lowest such booking
 abbrev pub first_stranding : Network → Verdict
 first_stranding g =
     let k = first (strands g) g.a in
-    cond (ltb k g.a) (Stranding (suc k) (first (stranding g (suc k)) g.n)) Pass
+    cond (ltb k g.a) (Err (Stranding (suc k) (first (stranding g (suc k)) g.n))) (Ok tt)
 
 -- the first fault, in the order of the refusals: the lowest booking, or the first way
 unfoldable pub check : Network → Verdict
@@ -88,25 +91,25 @@ check g =
     let k5 = first (unclosed g) g.a in
     let b6 = first (unused g) g.n in
     let k7 = first (repeated g) g.a in
-    cond (ltb b4 g.n) (Circular b4)
-    (cond (ltb k5 g.a) (Unclosed (suc k5))
-    (cond (ltb b6 g.n) (Unused b6)
-    (cond (ltb k7 g.a) (Repeated (suc k7)) (first_stranding g))))
+    cond (ltb b4 g.n) (Err (Circular b4))
+    (cond (ltb k5 g.a) (Err (Unclosed (suc k5)))
+    (cond (ltb b6 g.n) (Err (Unused b6))
+    (cond (ltb k7 g.a) (Err (Repeated (suc k7))) (first_stranding g))))
 
 -- the number that the caller gets, 0 for none
 unfoldable pub verdict_number : Verdict → ℕ
-verdict_number Pass = 0
-verdict_number (Circular b) = 4
-verdict_number (Unclosed w) = 5
-verdict_number (Unused b) = 6
-verdict_number (Repeated w) = 7
-verdict_number (Stranding w b) = 8
+verdict_number (Ok x) = 0
+verdict_number (Err (Circular b)) = 4
+verdict_number (Err (Unclosed w)) = 5
+verdict_number (Err (Unused b)) = 6
+verdict_number (Err (Repeated w)) = 7
+verdict_number (Err (Stranding w b)) = 8
 
 -- the place that goes with it: a booking's number, a way's, or way × 256 + booking
 unfoldable pub verdict_place : Verdict → ℕ
-verdict_place Pass = 0
-verdict_place (Circular b) = suc b
-verdict_place (Unclosed w) = w
-verdict_place (Unused b) = suc b
-verdict_place (Repeated w) = w
-verdict_place (Stranding w b) = w * 256 + suc b
+verdict_place (Ok x) = 0
+verdict_place (Err (Circular b)) = suc b
+verdict_place (Err (Unclosed w)) = w
+verdict_place (Err (Unused b)) = suc b
+verdict_place (Err (Repeated w)) = w
+verdict_place (Err (Stranding w b)) = w * 256 + suc b

@@ -1,11 +1,12 @@
 -- What the loops of the check find on the way to their answers, in the rules' words.
 -- Assumes nothing.
-use Rattle.std.specs.Prelude.{◌≡◌, Bool, not, cond, ◌&&◌, List, ℕ, ◌<◌, eqb, length, get_or}
-use Rattle.std.specs.Int.Bits.{bit_or}
-use Rattle.sets.specs.Sets.{alone, member, gather, without}
+use Rattle.std.specs.Prelude.{◌≡◌, Bool, not, cond, ◌&&◌, List, ℕ, suc, ◌<◌, eqb, ltb, length, get_or, Option, Some, None}
+use Rattle.std.specs.Int.Bits.{bit_and, bit_or}
+use Rattle.bounded.specs.Bounded.{first}
+use Rattle.sets.specs.Sets.{alone, member, gather, without, subset_of}
 use Rattle.network.specs.Network.{before, pre, firm}
 use Rattle.network.specs.declared.Network.{Network}
-use Rattle.verdict.specs.declared.Point.{Point}
+use Rattle.verdict.specs.declared.Spans.{Spans}
 
 -- s is firm, and x neither equals nor precedes it: of these, S has those of the way
 unfoldable pub may_stay : Network → ℕ → ℕ → Bool
@@ -31,7 +32,11 @@ pub record TakenFrom (old : List ℕ) (up b : ℕ) (new : List ℕ) : Type 0 whe
   pub whole : length new ≡ 64
   pub taken : (x : ℕ) → x < 64 → get_or new x 0 ≡ taken_at old up b x
 
--- what is handed to the test of one booking in one way
-pub record PointOf (g : Network) (p : Point) : Type 0 where
-  pub before : p.before ≡ before g p.x
-  pub stay : p.stay ≡ stay_at g p.x
+-- both, as they are found for all ways
+pub record SpansOf (g : Network) (p : Spans) : Type 0 where
+  pub upto : Upto g p.upto
+  pub stay : Stay g p.stay
+
+-- way k + 1 comes after way w, has all of s, and its exposed bookings, those of e, are in ok
+unfoldable pub shelters : ℕ → ℕ → ℕ → List ℕ → ℕ → ℕ → Bool
+shelters s ok e ws w k = ltb w (suc k) && (subset_of s (get_or ws k 0) && subset_of (bit_and e (get_or ws k 0)) ok)

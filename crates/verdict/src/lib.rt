@@ -1,113 +1,127 @@
 // The check of a network: refusals 4 to 8.
 #![tactic(auto)]
 
-ghost use Rattle.std.specs.Prelude.{◌≡◌, true, ◌&&◌, suc, ◌≤◌, ◌<◌, length, replicate};
+ghost use Rattle.std.specs.Prelude.{◌≡◌, true, ◌&&◌, ℕ, suc, ◌<◌, length, get_or};
 ghost use Rattle.std.specs.Int.Bits.{bit_and};
-ghost use Rattle.bounded.specs.Bounded.{any, first};
-ghost use Rattle.sets.specs.Sets.{gather, all_below, subset_of};
+ghost use Rattle.bounded.specs.Bounded.{any, sought};
+ghost use Rattle.sets.specs.Sets.{member, gather, all_below, subset_of};
 ghost use Rattle.network.specs.Network.{in_way, exposed};
-ghost use Rattle.verdict.specs.Check.{circular, unclosed, unused, repeated, staying, settled_by, later_refuge, stranding, first_stranding, check};
-ghost use Rattle.verdict.specs.Parts.{TakenFrom, Upto, Stay, PointOf};
+ghost use Rattle.verdict.specs.Check.{circular, unclosed, used_by, unused, repeated, staying, settled_by, later_refuge, stranding, first_stranding, check, verdict_number, verdict_place};
+ghost use Rattle.verdict.specs.Parts.{TakenFrom, SpansOf, shelters};
 
-use network::Network;
+use network::Chart;
 
-// What the check says: the first fault and where it is, bookings by index and ways by number.
-#[derive(Clone, Copy)]
-pub enum Verdict {
-    Pass,
+// The first fault of a network and where it is, bookings by index and ways by number. Those that name a booking stand together, and those that
+// name a way: a match over them has three outcomes then, and five would become a table of jumps.
+#[derive(Clone, Copy, PartialEq, Eq, Debug)]
+pub enum Fault {
     Circular(usize),
-    Unclosed(usize),
     Unused(usize),
+    Unclosed(usize),
     Repeated(usize),
     Stranding(usize, usize),
 }
 
-// Booking x of way k + 1, to be tried for stranding: before has what precedes it, stay the firm bookings that may be held still when it
-// is lost.
-#[derive(Clone, Copy)]
-struct Point {
-    k: usize,
-    x: usize,
-    before: u64,
-    stay: u64,
-}
-
-// The functions below take the network, and beside it by reference those of its arrays that they read: to read an element of a field
-// would copy the network.
-
-// 4: the lowest booking that precedes itself, or n.
-fn lowest_circular(g: Network, before: &[u64; 64]) -> usize
-    requires { (before.now ≡ g.before) × (g.n ≤ 64) }
-    ensures { result ≡ first (circular g) g.n }
-{
-    for b in 0..g.n {
-        if sets::has(before[b], b) {
-            return b;
+impl Fault {
+    // The number of the refusal: a byte, as that of a sheet's.
+    #[inline(never)]
+    #[tactic(auto, unfolding(crate::specs::Check::verdict_number))]
+    pub fn refusal(self) -> u8
+        ensures { result ≡ verdict_number (Err self) }
+    {
+        match self {
+            Fault::Circular(_) => 4,
+            Fault::Unclosed(_) => 5,
+            Fault::Unused(_) => 6,
+            Fault::Repeated(_) => 7,
+            Fault::Stranding(_, _) => 8,
         }
     }
-    g.n
+
+    // Its place: a booking's number, a way's, or way × 256 + booking.
+    #[tactic(auto, unfolding(crate::specs::Check::verdict_place))]
+    pub fn place(self) -> usize
+        requires { verdict_place (Err self) < 65536 }
+        ensures { result ≡ verdict_place (Err self) }
+    {
+        match self {
+            Fault::Circular(b) | Fault::Unused(b) => b + 1,
+            Fault::Unclosed(w) | Fault::Repeated(w) => w,
+            Fault::Stranding(w, b) => w * 256 + b + 1,
+        }
+    }
+}
+
+// For each booking: in upto itself and all that precede it; in stay the firm bookings that may be held still when it is lost. Both serve
+// all ways.
+// `SpansOf` stays a clause: it speaks of the chart too, which would have to be lent into the struct for a ghost field, for three clauses.
+#[derive(Clone, Copy)]
+struct Spans {
+    upto: [u64; 64],
+    stay: [u64; 64],
+}
+
+// 4: the lowest booking that precedes itself.
+fn lowest_circular(chart: &Chart) -> Option<usize>
+    ensures { result ≡ sought (circular chart.now.network) chart.now.network.n }
+{
+    let g = &chart.network;
+    (0..g.n).find(|b| sets::has(g.before[*b], *b))
 }
 
 // Whether way k + 1 has a booking but not all that precede it. Those below n are looked at, as the set may have others.
-fn is_unclosed(g: Network, way: &[u64; 16], before: &[u64; 64], k: usize) -> bool
-    requires { (way.now ≡ g.way) × (before.now ≡ g.before) × (g.n ≤ 64) × (g.a ≤ 16) × (k < g.a) }
-    ensures { result ≡ unclosed g k }
+fn is_unclosed(chart: &Chart, k: usize) -> bool
+    requires { k < chart.now.network.a }
+    ensures { result ≡ unclosed chart.now.network k }
 {
-    let here = way[k];
-    let mut rest = here & sets::all_below(g.n);
-    while rest != 0 {
-        let v = sets::lowest(rest);
-        if !sets::subset(before[v], here) {
+    let g = &chart.network;
+    let here = g.way[k];
+    for v in sets::members_of(here & sets::all_below(g.n)) {
+        if !sets::subset(g.before[v], here) {
             return true;
         }
-        rest = sets::but_lowest(rest);
     }
     false
 }
 
-// 5: the first such way, by index, or a.
-fn first_unclosed(g: Network, way: &[u64; 16], before: &[u64; 64]) -> usize
-    requires { (way.now ≡ g.way) × (before.now ≡ g.before) × (g.n ≤ 64) × (g.a ≤ 16) }
-    ensures { result ≡ first (unclosed g) g.a }
+// 5: the first such way, by index.
+fn first_unclosed(chart: &Chart) -> Option<usize>
+    ensures { result ≡ sought (unclosed chart.now.network) chart.now.network.a }
 {
-    for k in 0..g.a {
-        if is_unclosed(g, way, before, k) {
-            return k;
-        }
-    }
-    g.a
+    (0..chart.network.a).find(|k| is_unclosed(chart, *k))
 }
 
-// 6: the lowest booking in no way, or n.
-fn lowest_unused(g: Network, way: &[u64; 16]) -> usize
-    requires { (way.now ≡ g.way) × (g.n ≤ 64) × (g.a ≤ 16) }
-    ensures { result ≡ first (unused g) g.n }
+// The bookings of all ways.
+fn used(chart: &Chart) -> u64
+    ensures { (b : ℕ) → member result b ≡ any (used_by chart.now.network b) chart.now.network.a }
 {
-    let mut used: u64 = 0;
-    for k in 0..g.a {
-        used = used | way[k];
-    }
-    for b in 0..g.n {
-        if !sets::has(used, b) {
-            return b;
-        }
-    }
-    g.n
+    let g = &chart.network;
+    g.way[..g.a].iter().fold(0, |all, way| all | *way)
 }
 
-// 7: the first way, by index, that equals an earlier one, or a.
-fn first_repeated(g: Network, way: &[u64; 16]) -> usize
-    requires { (way.now ≡ g.way) × (g.a ≤ 16) }
-    ensures { result ≡ first (repeated g) g.a }
+// 6: the lowest booking in no way.
+fn lowest_unused(chart: &Chart) -> Option<usize>
+    ensures { result ≡ sought (unused chart.now.network) chart.now.network.n }
 {
-    for k in 0..g.a {
-        for j in 0..k {
-            if way[j] == way[k] {
-                return k;
-            }
-        }
-    }
-    g.a
+    let used = used(chart);
+    (0..chart.network.n).find(|b| !sets::has(used, *b))
+}
+
+// Whether way k + 1 equals an earlier one.
+fn is_repeated(chart: &Chart, k: usize) -> bool
+    requires { k < chart.now.network.a }
+    ensures { result ≡ repeated chart.now.network k }
+{
+    let ways = &chart.network.way;
+    let here = ways[k];
+    ways[..k].iter().any(|way| *way == here)
+}
+
+// 7: the first such way, by index.
+fn first_repeated(chart: &Chart) -> Option<usize>
+    ensures { result ≡ sought (repeated chart.now.network) chart.now.network.a }
+{
+    (0..chart.network.a).find(|k| is_repeated(chart, *k))
 }
 
 // Takes b out of the set of each member of up.
@@ -115,159 +129,135 @@ fn take_from_members(stay: &mut [u64; 64], up: u64, b: u64)
     requires { length stay.old ≡ 64 }
     ensures { TakenFrom stay.old up b stay.new }
 {
-    let mut rest = up;
-    while rest != 0 {
-        let x = sets::lowest(rest);
+    for x in sets::members_of(up) {
         stay[x] = sets::minus(stay[x], b);
-        rest = sets::but_lowest(rest);
     }
 }
 
-// For each booking: in upto itself and all that precede it; in stay, which comes with all firm bookings, those of them that may be held
-// still when it is lost. Both serve all ways. A firm booking is taken out where it may not stay, and not put in where it may, as of two
-// bookings at most one precedes the other.
-fn find_spans(g: Network, before: &[u64; 64], upto: &mut [u64; 64], stay: &mut [u64; 64])
-    requires { (before.now ≡ g.before) × (length upto.old ≡ 64) × (stay.old ≡ replicate 64 (bit_and g.firm (all_below g.n))) × (g.n ≤ 64) }
-    ensures { Upto g upto.new × Stay g stay.new }
+// For each booking all firm ones.
+fn firm_for_each(chart: &Chart) -> [u64; 64]
+    ensures { (x : ℕ) → x < chart.now.network.n → get_or result x 0 ≡ bit_and chart.now.network.firm (all_below chart.now.network.n) }
 {
+    let g = &chart.network;
+    let firm = g.firm & sets::all_below(g.n);
+    let mut stay = [0u64; 64];
+    stay[..g.n].fill(firm);
+    stay
+}
+
+// The two lists, with which every way is looked at. A firm booking is taken out where it may not stay, and not put in where it may, as of two bookings at
+// most one precedes the other.
+fn spans_of(chart: &Chart) -> Spans
+    ensures { SpansOf chart.now.network result }
+{
+    let g = &chart.network;
+    let mut spans = Spans {
+        upto: [0; 64],
+        stay: firm_for_each(chart),
+    };
+    // by index: it names a booking in two arrays, and in the set of the firm ones
     for s in 0..g.n {
         let b = sets::bit(s);
-        let up = before[s] | b;
-        upto[s] = up;
+        let up = g.before[s] | b;
+        spans.upto[s] = up;
         if sets::has(g.firm, s) {
-            take_from_members(stay, up, b);
+            take_from_members(&mut spans.stay, up, b);
         }
     }
+    spans
 }
 
-// The bookings that precede x, or equal or precede every member of S, which is s.
-fn settled_by(g: Network, upto: &[u64; 64], p: Point, s: u64) -> u64
-    requires { Upto g upto.now × PointOf g p × (s ≡ staying g (suc p.k) p.x) × (g.n ≤ 64) }
-    ensures { result ≡ gather (settled_by g (suc p.k) p.x) 64 }
-{
-    let mut r = sets::all_below(64);
-    let mut rest = s;
-    while rest != 0 {
-        let i = sets::lowest(rest);
-        r = r & upto[i];
-        rest = sets::but_lowest(rest);
-    }
-    p.before | r
-}
-
-// Whether a way has all of s, and no exposed booking outside ok.
-fn is_refuge(g: Network, s: u64, ok: u64, way: u64) -> bool
-    ensures { result ≡ (subset_of s way && subset_of (bit_and g.exposed way) ok) }
-{
-    if sets::subset(s, way) {
-        return sets::subset(g.exposed & way, ok);
-    }
-    false
-}
-
-// Whether a later way is a refuge, for S and the settled bookings.
-fn has_refuge(g: Network, way: &[u64; 16], p: Point, settled: u64) -> bool
-    requires { (way.now ≡ g.way) × PointOf g p × (settled ≡ gather (settled_by g (suc p.k) p.x) 64) × (g.a ≤ 16) × (p.k < g.a) }
-    ensures { result ≡ any (later_refuge g (suc p.k) p.x) g.a }
-{
-    let k = p.k;
-    let s = p.stay & way[k];
-    for j in k + 1..g.a {
-        if is_refuge(g, s, settled, way[j]) {
-            return true;
+impl Spans {
+    // The bookings that precede x, or equal or precede every member of S, which is s.
+    fn settled_by(&self, chart: &Chart, k: usize, x: usize, s: u64) -> u64
+        requires { SpansOf chart.now.network self.now × (x < chart.now.network.n) × (s ≡ staying chart.now.network (suc k) x) }
+        ensures { result ≡ gather (settled_by chart.now.network (suc k) x) 64 }
+    {
+        let mut r = sets::all_below(64);
+        for i in sets::members_of(s) {
+            r &= self.upto[i];
         }
+        chart.network.before[x] | r
     }
-    false
-}
 
-// Whether x, an exposed booking of way k + 1, leaves something firm behind with no later way to go to.
-fn is_stranding(g: Network, way: &[u64; 16], upto: &[u64; 64], p: Point) -> bool
-    requires { (way.now ≡ g.way) × Upto g upto.now × PointOf g p × (g.n ≤ 64) × (g.a ≤ 16) × (p.k < g.a) × (exposed g p.x ≡ true) × (in_way g (suc p.k) p.x ≡ true) }
-    ensures { result ≡ stranding g (suc p.k) p.x }
-{
-    let k = p.k;
-    let s = p.stay & way[k];
-    if s == 0 {
-        return false;
-    }
-    let settled = settled_by(g, upto, p, s);
-    !has_refuge(g, way, p, settled)
-}
-
-// The lowest booking of way k + 1 that strands, or n. Only exposed ones can; those below n are tried, as the sets may have others.
-fn lowest_stranding(
-    g: Network,
-    way: &[u64; 16],
-    before: &[u64; 64],
-    upto: &[u64; 64],
-    stay: &[u64; 64],
-    k: usize,
-) -> usize
-    requires { (way.now ≡ g.way) × (before.now ≡ g.before) × Upto g upto.now × Stay g stay.now × (g.n ≤ 64) × (g.a ≤ 16) × (k < g.a) }
-    ensures { result ≡ first (stranding g (suc k)) g.n }
-{
-    let mut rest = g.exposed & way[k] & sets::all_below(g.n);
-    while rest != 0 {
-        let x = sets::lowest(rest);
-        let b = before[x];
-        let s = stay[x];
-        let p = Point {
-            k,
-            x,
-            before: b,
-            stay: s,
-        };
-        if is_stranding(g, way, upto, p) {
-            return x;
+    // Whether x, an exposed booking of way k + 1, leaves something firm behind with no later way to go to.
+    fn is_stranding(&self, chart: &Chart, k: usize, x: usize) -> bool
+        requires { SpansOf chart.now.network self.now × (k < chart.now.network.a) × (x < chart.now.network.n) × (exposed chart.now.network x ≡ true) × (in_way chart.now.network (suc k) x ≡ true) }
+        ensures { result ≡ stranding chart.now.network (suc k) x }
+    {
+        let s = self.stay[x] & chart.network.way[k];
+        if s == 0 {
+            return false;
         }
-        rest = sets::but_lowest(rest);
+        let settled = self.settled_by(chart, k, x, s);
+        !has_refuge(chart, k, s, settled)
     }
-    g.n
+
+    // The lowest booking of way k + 1 that strands. Only exposed ones can; those below n are tried, as the sets may have others.
+    fn lowest_stranding(&self, chart: &Chart, k: usize) -> Option<usize>
+        requires { SpansOf chart.now.network self.now × (k < chart.now.network.a) }
+        ensures { result ≡ sought (stranding chart.now.network (suc k)) chart.now.network.n }
+    {
+        let g = &chart.network;
+        for x in sets::members_of(g.exposed & g.way[k] & sets::all_below(g.n)) {
+            if self.is_stranding(chart, k, x) {
+                return Some(x);
+            }
+        }
+        None
+    }
+}
+
+// Whether a way has all of s, and none of the exposed bookings outside ok.
+fn is_refuge(exposed: u64, s: u64, ok: u64, way: u64) -> bool
+    ensures { result ≡ (subset_of s way && subset_of (bit_and exposed way) ok) }
+{
+    sets::subset(s, way) && sets::subset(exposed & way, ok)
+}
+
+// Whether a way after way k + 1 is a refuge, for S, which is s, and the settled bookings.
+fn has_refuge(chart: &Chart, k: usize, s: u64, settled: u64) -> bool
+    requires { k < chart.now.network.a }
+    ensures { result ≡ any (shelters s settled chart.now.network.exposed chart.now.network.way (suc k)) chart.now.network.a }
+{
+    let g = &chart.network;
+    let exposed = g.exposed;
+    g.way[k + 1..g.a]
+        .iter()
+        .any(|way| is_refuge(exposed, s, settled, *way))
 }
 
 // 8: the first way in which some booking strands, and the lowest such booking.
-fn first_stranding(g: Network, way: &[u64; 16], before: &[u64; 64]) -> Verdict
-    requires { (way.now ≡ g.way) × (before.now ≡ g.before) × (g.n ≤ 64) × (g.a ≤ 16) }
-    ensures { result ≡ first_stranding g }
+fn first_stranding(chart: &Chart) -> Result<(), Fault>
+    ensures { result ≡ first_stranding chart.now.network }
 {
-    if g.firm == 0 {
-        return Verdict::Pass;
+    if chart.network.firm == 0 {
+        return Ok(());
     }
-    let mut upto = [0u64; 64];
-    let firm = g.firm & sets::all_below(g.n);
-    let mut stay = [firm; 64];
-    find_spans(g, before, &mut upto, &mut stay);
-    for k in 0..g.a {
-        let x = lowest_stranding(g, way, before, &upto, &stay, k);
-        if x < g.n {
-            return Verdict::Stranding(k + 1, x);
+    let spans = spans_of(chart);
+    for k in 0..chart.network.a {
+        if let Some(x) = spans.lowest_stranding(chart, k) {
+            return Err(Fault::Stranding(k + 1, x));
         }
     }
-    Verdict::Pass
+    Ok(())
 }
 
 // The check: the first fault, in the order of the refusals.
-pub fn check(g: Network) -> Verdict
-    requires { (g.n ≤ 64) × (g.a ≤ 16) }
-    ensures { result ≡ check g }
+pub fn check(chart: &Chart) -> Result<(), Fault>
+    ensures { result ≡ check chart.now.network }
 {
-    let way = g.way;
-    let before = g.before;
-    let b4 = lowest_circular(g, &before);
-    if b4 < g.n {
-        return Verdict::Circular(b4);
+    if let Some(b) = lowest_circular(chart) {
+        return Err(Fault::Circular(b));
     }
-    let k5 = first_unclosed(g, &way, &before);
-    if k5 < g.a {
-        return Verdict::Unclosed(k5 + 1);
+    if let Some(k) = first_unclosed(chart) {
+        return Err(Fault::Unclosed(k + 1));
     }
-    let b6 = lowest_unused(g, &way);
-    if b6 < g.n {
-        return Verdict::Unused(b6);
+    if let Some(b) = lowest_unused(chart) {
+        return Err(Fault::Unused(b));
     }
-    let k7 = first_repeated(g, &way);
-    if k7 < g.a {
-        return Verdict::Repeated(k7 + 1);
+    if let Some(k) = first_repeated(chart) {
+        return Err(Fault::Repeated(k + 1));
     }
-    first_stranding(g, &way, &before)
+    first_stranding(chart)
 }

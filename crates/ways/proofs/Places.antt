@@ -8,15 +8,16 @@ use Rattle.plan.proofs.RecordLaws.{Upto, further}
 use Rattle.ways.specs.WayText.{way_bytes}
 use Rattle.ways.specs.Way.{way_line_of}
 use Rattle.ways.specs.Ways.{after_way, ways_of}
-use Rattle.ways.specs.declared.Way.{Way}
-use Rattle.ways.specs.declared.Way.TheVariants as W
+use Rattle.std.specs.Prelude.{Result, Ok, Err}
+use Rattle.ways.specs.declared.WayFault.{WayFault}
+use Rattle.ways.specs.declared.WayFault.TheVariants.{Malformed, OutOfLimits, OutOfSequence}
 use Rattle.ways.specs.declared.Ways.{Ways}
 
-ways_next : (b : Way) (l at m : ℕ) (ws : List ℕ) (f : ℕ → ℕ → Ways) → l ≤ m → ((k s : ℕ) → Upto m (f k s).judged) → Upto m (after_way b l at ws f).judged
-ways_next (W.Members k s) l at m ws f h n = n k s
-ways_next W.Malformed l at m ws f h n = record { place = h; few = omega arith }
-ways_next W.OutOfLimits l at m ws f h n = record { place = h; few = omega arith }
-ways_next W.OutOfSequence l at m ws f h n = record { place = h; few = omega arith }
+ways_next : (b : Result (ℕ × ℕ) WayFault) (l at m : ℕ) (ws : List ℕ) (f : ℕ → ℕ → Ways) → l ≤ m → ((k s : ℕ) → Upto m (f k s).judged) → Upto m (after_way b l at ws f).judged
+ways_next (Ok way) l at m ws f h n = n way.0 way.1
+ways_next (Err Malformed) l at m ws f h n = record { place = h; few = omega arith }
+ways_next (Err OutOfLimits) l at m ws f h n = record { place = h; few = omega arith }
+ways_next (Err OutOfSequence) l at m ws f h n = record { place = h; few = omega arith }
 
 pub ways-small : (n line more i at : ℕ) (rest ws : List ℕ) → Upto (line + i + more) (ways_of n line more i at rest ws).judged
 unfolding ways_of

@@ -1,117 +1,69 @@
 -- What the readers of a way line have in hand at each of their returns, and in a turn of their loops.
 -- Assumes nothing.
-use mathlib.Core.Path.{◌≡◌, refl, sym, ◌∙◌}
+use mathlib.Core.Path.{◌≡◌, refl, sym, ap, ◌∙◌}
 use mathlib.Core.Bool.{Bool, true, false, not, cond}
-use mathlib.Core.List.{List, [], ◌∷◌}
+use mathlib.Core.List.{List}
 use Prim.Native.Nat.{ℕ, suc, ◌+◌, ◌*◌, ◌-◌, ◌≤◌, ◌<◌}
 use native.Mathlib.Omega.{arith}
-use lib.ListN.{length, get_or, take, drop, set, get_or-eq_default}
+use lib.ListN.{take, drop, set}
 use lib.Seq.{drop-drop, get_or-drop}
-use borrow.Author.Tests.{eq-eqb, ne_eqb, not-true, not-false}
 use Rattle.bounded.specs.Bounded.{all}
-use Rattle.bounded.proofs.Bools.{clash, went}
-use Rattle.bounded.proofs.Loops.{AllFar, all-out, all-on}
+use Rattle.bounded.proofs.Bools.{clash}
+use Rattle.bounded.proofs.Loops.{AllFar, all-call, all-far-call}
 use Rattle.sets.specs.Sets.{insert}
 use Rattle.plan.specs.Limits.{within}
 use Rattle.plan.proofs.LimitLaws.{within-hi}
-use Rattle.decimal.specs.Decimal.{field_at}
-use Rattle.decimal.specs.declared.Field.{Field}
-use Rattle.decimal.specs.declared.Field.TheVariants.{Number, Blank, Fault}
-use Rattle.decimal.proofs.Fields.{NoNumber, no_number}
+use Rattle.std.specs.Prelude.{Result, Ok, Err, is_ok}
+use Rattle.decimal.specs.Decimal.{Field, field_at}
+use Rattle.decimal.specs.declared.NoNumber.{NoNumber}
+use Rattle.lines.specs.declared.LineFault.{LineFault}
+use Rattle.lines.specs.declared.LineFault.TheVariants as L
 use Rattle.ways.specs.WayText.{way_front_bytes, way_bytes}
-use Rattle.ways.specs.Way.{count_of, is_number, number_there, sequence_or_form, after_number, gather_of, line_feed_at, as_way, members_of, after_count, way_line_of}
-use Rattle.ways.specs.Ways.{after_way, ways_of}
-use Rattle.plan.specs.declared.Judged.TheVariants as J
-use Rattle.ways.specs.declared.Gathered.{Gathered}
-use Rattle.ways.specs.declared.Gathered.TheVariants as G
-use Rattle.ways.specs.declared.Way.{Way}
+use Rattle.ways.specs.Way.{count_of, number_there, sequence_or_form, after_number, gather_of, line_feed_at, as_way, members_of, after_count, way_line_of}
+use Rattle.ways.specs.Ways.{way_fault_on, after_way, ways_of}
+use Rattle.ways.specs.declared.WayFault.{WayFault}
+use Rattle.ways.specs.declared.WayFault.TheVariants.{Malformed, OutOfLimits}
 use Rattle.ways.specs.declared.Ways.{Ways}
-use Rattle.ways.specs.declared.Way.TheVariants.{Members, Malformed, OutOfLimits, OutOfSequence}
-
--- ---- the count
-
-pub no_front : (front : List ℕ) → length front ≡ 0 → Fault ≡ count_of front
-unfolding count_of
-no_front [] h = refl
-no_front (x ∷ t) h = absurd (omega arith)
-
-pub other-letter : (front : List ℕ) → (get_or front 0 0 ≡ 65 → ⊥) → Fault ≡ count_of front
-unfolding count_of
-other-letter front h = rw (ne_eqb (get_or front 0 0) 65 h)
-
-pub count-field : (front : List ℕ) (f : Field) → get_or front 0 0 ≡ 65 → f ≡ field_at 4 1 front → f ≡ count_of front
-unfolding count_of
-count-field front f h e = rw (eq-eqb (get_or front 0 0) 65 h) e
-
--- ---- the line feed
-
-pub no-line-feed : (s : List ℕ) (at : ℕ) → length s ≤ at → false ≡ line_feed_at at s
-unfolding line_feed_at
-no-line-feed s at h = rw (get_or-eq_default s 0 h)
 
 -- ---- fields that are numbers
 
-pub is_one : (f g : Field) (x : ℕ) → f ≡ g → f ≡ Number x → true ≡ is_number g
-is_one f g x e q = rw (← e, q)
+pub is_none : (f g : Field) (none : NoNumber) → f ≡ g → f ≡ Err none → false ≡ is_ok g
+is_none f g none e q = rw (← e, q)
 
-pub is_none : (f g : Field) → f ≡ g → NoNumber f → false ≡ is_number g
-is_none (Number x) g e q = absurd (no_number (Number x) q x refl)
-is_none Blank g e q = rw (← e)
-is_none Fault g e q = rw (← e)
-
-there : (s : List ℕ) (at j : ℕ) → is_number (field_at 4 (at + 4 * j) s) ≡ number_there (drop at s) j
+there : (s : List ℕ) (at j : ℕ) → is_ok (field_at 4 (at + 4 * j) s) ≡ number_there (drop at s) j
 unfolding number_there field_at
 there s at j = rw (drop-drop (4 * j) at s)
 
-pub number-out : (s : List ℕ) (at k j : ℕ) (x : Bool) → j < k → x ≡ is_number (field_at 4 (at + 4 * j) s) → not x ≡ true
+pub number-out : (s : List ℕ) (at k j : ℕ) (f : Field) (x : Bool) → f ≡ field_at 4 (at + 4 * j) s → is_ok f ≡ not x → x ≡ true → j < k
     → false ≡ all (number_there (drop at s)) k
-number-out s at k j x h e q = all-out (number_there (drop at s)) k j x h (e ∙ there s at j) q
+number-out s at k j f x g e q h = all-call (number_there (drop at s)) k j h (not x) (sym e ∙ ap is_ok g ∙ there s at j) (ap not q)
 
-pub number-on : (s : List ℕ) (at j : ℕ) (x : Bool) → AllFar (number_there (drop at s)) j → x ≡ is_number (field_at 4 (at + 4 * j) s)
-    → not x ≡ false → AllFar (number_there (drop at s)) (j + 1)
-number-on s at j x a e q = all-on (number_there (drop at s)) j x a (e ∙ there s at j) q
-
-pub sequence-told : (k : ℕ) (fields : List ℕ) (x : Bool) → x ≡ all (number_there fields) k → x ≡ true → G.OutOfSequence ≡ sequence_or_form k fields
-unfolding sequence_or_form
-sequence-told k fields x e q = rw (← e, q)
-
-pub form-told : (k : ℕ) (fields : List ℕ) (x : Bool) → x ≡ all (number_there fields) k → x ≡ false → G.Malformed ≡ sequence_or_form k fields
-unfolding sequence_or_form
-form-told k fields x e q = rw (← e, q)
+pub number-on : (s : List ℕ) (at j : ℕ) (f : Field) (x : Bool) → f ≡ field_at 4 (at + 4 * j) s → is_ok f ≡ not x → x ≡ false → AllFar (number_there (drop at s)) j
+    → AllFar (number_there (drop at s)) (j + 1)
+number-on s at j f x g e q a = all-far-call (number_there (drop at s)) j a (not x) (sym e ∙ ap is_ok g ∙ there s at j) (ap not q)
 
 -- ---- the set of the numbers
 
--- neither a blank nor a fault is a member
-no_member : (f : Field) → NoNumber f → (n last : ℕ) (refused : Gathered) (next : ℕ → Gathered) → G.Malformed ≡ after_number f n last refused next
-no_member (Number x) q n last refused next = absurd (no_number (Number x) q x refl)
-no_member Blank q n last refused next = refl
-no_member Fault q n last refused next = refl
-
-module _ (n last set k j at : ℕ) (s : List ℕ) (f : Field) (whole : Gathered) (h : j < k) (e : f ≡ field_at 4 (at + 4 * j) s)
-    (w : gather_of n last set (k - j) (drop (at + 4 * j) s) ≡ whole) where
-  turn : after_number f n last (sequence_or_form (k - (j + 1)) (drop (at + 4 * (j + 1)) s))
+module _ (n last set k j at : ℕ) (s : List ℕ) (whole : Result ℕ LineFault) (h : j < k) (w : gather_of n last set (k - j) (drop (at + 4 * j) s) ≡ whole) where
+  turn : after_number (field_at 4 (at + 4 * j) s) n last (sequence_or_form (k - (j + 1)) (drop (at + 4 * (j + 1)) s))
       (λ x. gather_of n x (insert set (x - 1)) (k - (j + 1)) (drop (at + 4 * (j + 1)) s)) ≡ whole
   unfolding gather_of field_at
   turn =
       let c : k - j ≡ suc (k - (j + 1)) = omega arith in
       let d : at + 4 * j + 4 ≡ at + 4 * (j + 1) = omega arith in
-      rw (e, ← d, ← drop-drop 4 (at + 4 * j) s) (rw c at w)
+      rw (← d, ← drop-drop 4 (at + 4 * j) s) (rw c at w)
 
-  pub gather-fault : NoNumber f → G.Malformed ≡ whole
-  gather-fault g = no_member f g n last _ _ ∙ turn
+  pub gather-fault : (none : NoNumber) → Err none ≡ field_at 4 (at + 4 * j) s → Err L.Malformed ≡ whole
+  gather-fault none g = rw (← g) at turn
 
-  module _ (x : ℕ) (b : Bool) (g : f ≡ Number x) (t : b ≡ within (last + 1) x n) where
-    pub gather-out : (r : Gathered) → not b ≡ true → r ≡ sequence_or_form (k - (j + 1)) (drop (at + 4 * (j + 1)) s) → r ≡ whole
-    gather-out r q z =
-        let o : within (last + 1) x n ≡ false = sym t ∙ not-true b q in
-        z ∙ (rw (g, o) at turn)
+  module _ (x : ℕ) (g : Ok x ≡ field_at 4 (at + 4 * j) s) where
+    pub gather-out : false ≡ within (last + 1) x n → Err (sequence_or_form (k - (j + 1)) (drop (at + 4 * (j + 1)) s)) ≡ whole
+    gather-out q = rw (← g, ← q) at turn
 
-    pub gather-on : (y : ℕ) → not b ≡ false → y ≡ insert set (x - 1) → gather_of n x y (k - (j + 1)) (drop (at + 4 * (j + 1)) s) ≡ whole
-    gather-on y q z =
-        let o : within (last + 1) x n ≡ true = went t q in
-        rw z (rw (g, o) at turn)
+    pub gather-on : true ≡ within (last + 1) x n → gather_of n x (insert set (x - 1)) (k - (j + 1)) (drop (at + 4 * (j + 1)) s) ≡ whole
+    gather-on q = rw (← g, ← q) at turn
 
-pub gather-end : (n last set k j : ℕ) (fields : List ℕ) (whole : Gathered) → k ≤ j → gather_of n last set (k - j) fields ≡ whole → G.Set set ≡ whole
+pub gather-end : (n last set k j : ℕ) (fields : List ℕ) (whole : Result ℕ LineFault) → k ≤ j → gather_of n last set (k - j) fields ≡ whole → Ok set ≡ whole
 unfolding gather_of
 gather-end n last set k j fields whole h w =
     let e : k - j ≡ 0 = omega arith in
@@ -119,62 +71,56 @@ gather-end n last set k j fields whole h w =
 
 -- ---- a line
 
--- nor is it a count
-none-counted : (f : Field) → NoNumber f → (n : ℕ) (rest : List ℕ) → Malformed ≡ after_count f n rest
-none-counted (Number x) q n rest = absurd (no_number (Number x) q x refl)
-none-counted Blank q n rest = refl
-none-counted Fault q n rest = refl
-
-module _ (n at : ℕ) (s front : List ℕ) (f : Field) (p : front ≡ take way_front_bytes (drop at s)) (e : f ≡ count_of front) where
-  by_count : way_line_of n (drop at s) ≡ after_count f n (drop at s)
+module _ (n at : ℕ) (s : List ℕ) where
+  by_count : (f : Field) → f ≡ count_of (take way_front_bytes (drop at s)) → way_line_of n (drop at s) ≡ after_count f n (drop at s)
   unfolding way_line_of
-  by_count = rw (e, p)
+  by_count f e = rw e
 
-  pub no-count : NoNumber f → Malformed ≡ way_line_of n (drop at s)
-  no-count g = rw by_count (none-counted f g n (drop at s))
+  pub no-count : (none : NoNumber) → Err none ≡ count_of (take way_front_bytes (drop at s)) → Err Malformed ≡ way_line_of n (drop at s)
+  no-count none e = rw (by_count (Err none) e)
 
-  module _ (k : ℕ) (g : f ≡ Number k) (b : Bool) (t : b ≡ within 1 k n) where
-    pub count-out : not b ≡ true → OutOfLimits ≡ way_line_of n (drop at s)
-    count-out q = rw (by_count, g, ← t, not-true b q)
+  module _ (k : ℕ) (e : Ok k ≡ count_of (take way_front_bytes (drop at s))) where
+    pub count-out : false ≡ within 1 k n → Err OutOfLimits ≡ way_line_of n (drop at s)
+    count-out t = rw (by_count (Ok k) e, ← t)
 
-    module _ (q : not b ≡ false) (d : Bool) (w : d ≡ line_feed_at (at + way_front_bytes + 4 * k) s) where
-      feed : line_feed_at (way_front_bytes + 4 * k) (drop at s) ≡ d
+    module _ (t : true ≡ within 1 k n) where
+      feed : line_feed_at (way_front_bytes + 4 * k) (drop at s) ≡ line_feed_at (at + way_front_bytes + 4 * k) s
       unfolding line_feed_at
       feed =
           let a : at + (way_front_bytes + 4 * k) ≡ at + way_front_bytes + 4 * k = omega arith in
-          rw (get_or-drop at s (way_front_bytes + 4 * k) 0, a, w)
+          rw (get_or-drop at s (way_front_bytes + 4 * k) 0, a)
 
-      pub no_end : not d ≡ true → Malformed ≡ way_line_of n (drop at s)
+      pub no_end : false ≡ line_feed_at (at + way_front_bytes + 4 * k) s → Err Malformed ≡ way_line_of n (drop at s)
       unfolding members_of
-      no_end x = rw (by_count, g, ← t, not-false b q, feed, not-true d x)
+      no_end x = rw (by_count (Ok k) e, ← t, feed, ← x)
 
-      module _ (x : not d ≡ false) (h : Gathered) (y : h ≡ gather_of n 0 0 k (drop (at + way_front_bytes) s)) where
-        pub by-set : way_line_of n (drop at s) ≡ as_way k h
-        unfolding members_of
-        by-set = rw (by_count, g, ← t, not-false b q, feed, not-false d x, drop-drop way_front_bytes at s, y)
+      pub by-set : true ≡ line_feed_at (at + way_front_bytes + 4 * k) s → (h : Result ℕ LineFault) → h ≡ gather_of n 0 0 k (drop (at + way_front_bytes) s) → as_way k h ≡ way_line_of n (drop at s)
+      unfolding members_of
+      by-set x h y = rw (by_count (Ok k) e, ← t, feed, ← x, drop-drop way_front_bytes at s, y)
 
 -- ---- a line that is accepted has at most n bookings
 
-few-gathered : (n c k x : ℕ) (h : Gathered) → c ≤ n → as_way c h ≡ Members k x → k ≤ n
-few-gathered n c k x (G.Set y) l e = let q : c ≡ k = cc in omega arith
-few-gathered n c k x G.Malformed l e = clash true refl (cc)
-few-gathered n c k x G.OutOfSequence l e = clash true refl (cc)
+few-gathered : (n c : ℕ) (w : ℕ × ℕ) (h : Result ℕ LineFault) → c ≤ n → as_way c h ≡ Ok w → w.0 ≤ n
+few-gathered n c w (Ok x) l e =
+    let p : (c, x) ≡ w = cc in
+    let q : c ≡ w.0 = ap (λ (v : ℕ × ℕ). v.0) p in
+    omega arith
+few-gathered n c w (Err fault) l e = clash true refl (cc)
 
-few-counted : (n k x : ℕ) (rest : List ℕ) (f : Field) → after_count f n rest ≡ Members k x → k ≤ n
+few-counted : (n : ℕ) (w : ℕ × ℕ) (rest : List ℕ) (f : Field) → after_count f n rest ≡ Ok w → w.0 ≤ n
 unfolding members_of
-few-counted n k x rest (Number c) e =
+few-counted n w rest (Ok c) e =
     go (within 1 c n) (line_feed_at (way_front_bytes + 4 * c) rest) (within-hi 1 c n) e
   where
-    go : (a b : Bool) → (a ≡ true → c ≤ n) → cond a (cond b (as_way c (gather_of n 0 0 c (drop way_front_bytes rest))) Malformed) OutOfLimits ≡ Members k x → k ≤ n
-    go true true h e = few-gathered n c k x (gather_of n 0 0 c (drop way_front_bytes rest)) (h refl) e
+    go : (a b : Bool) → (a ≡ true → c ≤ n) → cond a (cond b (as_way c (gather_of n 0 0 c (drop way_front_bytes rest))) (Err Malformed)) (Err OutOfLimits) ≡ Ok w → w.0 ≤ n
+    go true true h e = few-gathered n c w (gather_of n 0 0 c (drop way_front_bytes rest)) (h refl) e
     go true false h e = clash true refl (cc)
     go false b h e = clash true refl (cc)
-few-counted n k x rest Blank e = clash true refl (cc)
-few-counted n k x rest Fault e = clash true refl (cc)
+few-counted n w rest (Err none) e = clash true refl (cc)
 
-pub few-members : (n : ℕ) (rest : List ℕ) (b : Way) (k x : ℕ) → b ≡ way_line_of n rest → b ≡ Members k x → k ≤ n
+pub few-members : (n : ℕ) (rest : List ℕ) (w : ℕ × ℕ) → way_line_of n rest ≡ Ok w → w.0 ≤ n
 unfolding way_line_of
-few-members n rest b k x e g = few-counted n k x rest (count_of (take way_front_bytes rest)) (sym e ∙ g)
+few-members n rest w e = few-counted n w rest (count_of (take way_front_bytes rest)) e
 
 -- ---- all lines
 
@@ -186,25 +132,18 @@ ways-step n first a i at rest ws h =
     let e : a - i ≡ suc (a - (i + 1)) = omega arith in
     rw e
 
-module _ (n first a i at : ℕ) (s ws : List ℕ) (b : Way) (whole : Ways) (h : i < a) (e : b ≡ way_line_of n (drop at s))
-    (w : ways_of n first (a - i) i at (drop at s) ws ≡ whole) where
-  ways-turn : after_way b (first + i) at ws (λ k x. ways_of n first (a - (i + 1)) (i + 1) (at + way_bytes k) (drop (way_bytes k) (drop at s)) (set ws i x)) ≡ whole
-  ways-turn = rw (e, ← ways-step n first a i at (drop at s) ws h) w
+module _ (n first a i at : ℕ) (s ws : List ℕ) (whole : Ways) (h : i < a) (w : ways_of n first (a - i) i at (drop at s) ws ≡ whole) where
+  ways-turn : after_way (way_line_of n (drop at s)) (first + i) at ws (λ k x. ways_of n first (a - (i + 1)) (i + 1) (at + way_bytes k) (drop (way_bytes k) (drop at s)) (set ws i x)) ≡ whole
+  ways-turn = rw (← ways-step n first a i at (drop at s) ws h) w
 
-  pub ways_on : (k x r : ℕ) → b ≡ Members k x → r ≡ way_bytes k → ways_of n first (a - (i + 1)) (i + 1) (at + r) (drop (at + r) s) (set ws i x) ≡ whole
-  ways_on k x r g q = rw (q, ← drop-drop (way_bytes k) at s) (rw g at ways-turn)
+  pub ways_on : (k x r : ℕ) → Ok (k, x) ≡ way_line_of n (drop at s) → r ≡ way_bytes k → ways_of n first (a - (i + 1)) (i + 1) (at + r) (drop (at + r) s) (set ws i x) ≡ whole
+  ways_on k x r g q = rw (q, ← drop-drop (way_bytes k) at s) (rw (← g) at ways-turn)
 
-  pub ways-form : b ≡ Malformed → record { judged = J.Form (first + i); next = at; way = ws } ≡ whole
-  ways-form g = rw g at ways-turn
-
-  pub ways-count : b ≡ OutOfLimits → record { judged = J.Count (first + i); next = at; way = ws } ≡ whole
-  ways-count g = rw g at ways-turn
-
-  pub ways-sequence : b ≡ OutOfSequence → record { judged = J.Sequence (first + i); next = at; way = ws } ≡ whole
-  ways-sequence g = rw g at ways-turn
+  pub ways-fault : (fault : WayFault) → Err fault ≡ way_line_of n (drop at s) → record { judged = Err (way_fault_on fault (first + i)); next = at; way = ws } ≡ whole
+  ways-fault fault g = rw (← g) at ways-turn
 
 pub ways-end : (n first a i at : ℕ) (rest ws : List ℕ) (whole : Ways) → a ≤ i → ways_of n first (a - i) i at rest ws ≡ whole
-    → record { judged = J.Fine; next = at; way = ws } ≡ whole
+    → record { judged = Ok tt; next = at; way = ws } ≡ whole
 unfolding ways_of
 ways-end n first a i at rest ws whole h w =
     let e : a - i ≡ 0 = omega arith in

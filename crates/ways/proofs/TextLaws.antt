@@ -1,97 +1,61 @@
 -- The laws of the text of a way, and what its writers have in hand.
 -- Assumes nothing.
 use mathlib.Core.Path.{◌≡◌, refl, sym, ap, ◌∙◌}
-use mathlib.Core.Bool.{Bool, true, false, cond}
-use mathlib.Core.List.{List, [], ◌∷◌, ◌++◌, append-nil, append_assoc}
-use Prim.Native.Nat.{ℕ, suc, ◌+◌, ◌*◌, ◌-◌, ◌≤◌, ◌<◌}
+use mathlib.Core.List.{List, [], ◌∷◌, ◌++◌}
+use Prim.Native.Nat.{ℕ, zero, suc, ◌+◌, ◌*◌, ◌-◌, ◌≤◌, ◌<◌}
 use native.Mathlib.Numerals.{add-one}
 use native.Mathlib.Omega.{arith}
-use lib.ListN.{length, get_or, length-append}
-use lib.Seq.{sets}
-use Rattle.bounded.specs.Bounded.{one, sum, count, listed}
-use Rattle.bounded.proofs.Sums.{sum-upto, sum-most, count-upto, count-suc}
-use Rattle.bounded.proofs.Lists.{listed-length}
-use Rattle.sets.specs.Sets.{member, size_of}
-use Rattle.sets.proofs.Gather.{size_small}
+use lib.ListN.{length, get_or, take, length-append}
+use lib.Seq.{sets, get_or-take, length-take-le}
+use Rattle.bounded.specs.Bounded.{sum}
+use Rattle.bounded.proofs.Sums.{sum-upto, sum-most, sum-eq}
+use Rattle.sets.specs.Sets.{size_of}
+use Rattle.sets.specs.Rising.{LowestOut}
+use Rattle.sets.proofs.Gather.{size_small, size-listed}
 use Rattle.plan.specs.Limits.{most_bookings}
 use Rattle.decimal.specs.Decimal.{columns}
 use Rattle.decimal.proofs.Laws.{columns-length}
 use Rattle.decimal.proofs.Stores.{sets-append}
-use Rattle.ways.specs.WayText.{members, numbers_text, member_text, way_front_bytes, way_bytes, way_front, way_text, ways_text, size_at, bytes_at, ways_length}
+use Rattle.ways.specs.WayText.{members, numbers_text, way_front_bytes, way_bytes, way_front, way_text, ways_text, size_at, bytes_at, ways_length}
+use Rattle.ways.proofs.Members.{members-lowest, members-zero}
 
 -- ---- numbers
-
-pub numbers-append : (xs ys : List ℕ) → numbers_text (xs ++ ys) ≡ numbers_text xs ++ numbers_text ys
-unfolding numbers_text
-numbers-append [] ys = refl
-numbers-append (b ∷ xs) ys = ap (λ (t : List ℕ). columns 4 (b + 1) ++ t) (numbers-append xs ys) ∙ sym (append_assoc (columns 4 (b + 1)) (numbers_text xs) (numbers_text ys))
-
-pub numbers-one : (b : ℕ) → numbers_text (b ∷ []) ≡ columns 4 (b + 1)
-unfolding numbers_text
-numbers-one b = append-nil (columns 4 (b + 1))
 
 pub numbers-length : (bs : List ℕ) → length (numbers_text bs) ≡ 4 * length bs
 unfolding numbers_text
 numbers-length [] = refl
 numbers-length (b ∷ bs) = length-append (columns 4 (b + 1)) (numbers_text bs) ∙ omega (arith, columns-length 4 (b + 1), numbers-length bs)
 
-pub listed-text-length : (s b : ℕ) → length (numbers_text (listed (member s) b)) ≡ 4 * count (member s) b
-listed-text-length s b = numbers-length (listed (member s) b) ∙ ap (λ (k : ℕ). 4 * k) (listed-length (member s) b)
+pub size-members : (s : ℕ) → size_of s ≡ length (members s)
+unfolding members
+size-members s = size-listed s
 
 pub members-length : (s : ℕ) → length (numbers_text (members s)) ≡ 4 * size_of s
-unfolding members size_of
-members-length s = listed-text-length s 64
+members-length s = omega (arith, numbers-length (members s), size-members s)
 
--- ---- one member
+-- ---- the members, the lowest first: v is the lowest of s, and t are the others
 
-module _ (s b : ℕ) (x : Bool) (e : x ≡ member s b) where
-  pub room-there : (at size : ℕ) → x ≡ true → at + 4 * one (member s b) ≤ size → at + 4 ≤ size
-  room-there at size q h =
-      let m : member s b ≡ true = sym e ∙ q in
-      let k : one (member s b) ≡ 1 = rw m in
-      omega arith
+module _ (s v t : ℕ) (o : LowestOut s v t) where
+  both : members s ≡ v ∷ members t
+  both = rw (o.lowest, o.others) (members-lowest s o.fits o.some)
 
-  pub there-next : (at : ℕ) → x ≡ true → at + 4 ≡ at + 4 * one (member s b)
-  there-next at q = rw (← e, q)
+  pub one-less : size_of s ≡ size_of t + 1
+  one-less = omega (arith, size-members s, size-members t, ap length both)
 
-  pub there-text : (at : ℕ) (d z : List ℕ) → x ≡ true → z ≡ sets d at (columns 4 (b + 1)) → z ≡ sets d at (member_text s b)
-  unfolding member_text
-  there-text at d z q w = rw (← e, q, numbers-one b) w
+  pub members-on : (next : ℕ) (buf buf' whole : List ℕ) → sets buf next (numbers_text (members s)) ≡ whole → buf' ≡ sets buf next (columns 4 (v + 1))
+      → sets buf' (next + 4) (numbers_text (members t)) ≡ whole
+  unfolding numbers_text
+  members-on next buf buf' whole w e =
+      let n : next + length (columns 4 (v + 1)) ≡ next + 4 = omega (arith, columns-length 4 (v + 1)) in
+      rw (e, ← n, ← sets-append buf next (columns 4 (v + 1)) (numbers_text (members t))) (rw both at w)
 
-  pub absent-next : (at : ℕ) → x ≡ false → at ≡ at + 4 * one (member s b)
-  absent-next at q = rw (← e, q) (omega arith)
+-- no more are left
+pub none-left : (s : ℕ) → s ≡ 0 → size_of s ≡ 0
+none-left s e = rw e (size-members 0 ∙ ap length members-zero)
 
-  pub absent-text : (at : ℕ) (d : List ℕ) → x ≡ false → d ≡ sets d at (member_text s b)
-  unfolding member_text numbers_text
-  absent-text at d q = rw (← e, q)
-
--- ---- the members below b + 1, by those below b
-
-pub text-step : (s b : ℕ) → numbers_text (listed (member s) (b + 1)) ≡ numbers_text (listed (member s) b) ++ member_text s b
-unfolding listed member_text
-text-step s b = rw (add-one) (numbers-append (listed (member s) b) (cond (member s b) (b ∷ []) []))
-
-pub room-member : (s b at next size size₀ : ℕ) → b < 64 → size ≡ size₀ → next ≡ at + 4 * count (member s) b → at + 4 * size_of s ≤ size₀
-    → next + 4 * one (member s b) ≤ size
-unfolding size_of
-room-member s b at next size size₀ h z e r = omega (arith, count-suc (member s) b, count-upto (member s) (b + 1) 64 (omega arith))
-
-pub members-next : (s b at next after : ℕ) → next ≡ at + 4 * count (member s) b → after ≡ next + 4 * one (member s b) → after ≡ at + 4 * count (member s) (b + 1)
-members-next s b at next after e f = omega (arith, count-suc (member s) b)
-
-pub members-on : (s b at next : ℕ) (buf₀ buf buf' : List ℕ) → next ≡ at + 4 * count (member s) b → buf ≡ sets buf₀ at (numbers_text (listed (member s) b))
-    → buf' ≡ sets buf next (member_text s b) → buf' ≡ sets buf₀ at (numbers_text (listed (member s) (b + 1)))
-members-on s b at next buf₀ buf buf' e f g =
-    let n : next ≡ at + length (numbers_text (listed (member s) b)) = e ∙ ap (λ (k : ℕ). at + k) (sym (listed-text-length s b)) in
-    rw (text-step s b, sets-append buf₀ at (numbers_text (listed (member s) b)) (member_text s b), ← f, ← n) g
-
-pub members-count : (s b at next : ℕ) → b ≤ 64 → 64 ≤ b → next ≡ at + 4 * count (member s) b → next ≡ at + 4 * size_of s
-unfolding size_of
-members-count s b at next h l e = let z : b ≡ 64 = omega arith in rw z at e
-
-pub members-done : (s b at : ℕ) (buf₀ buf : List ℕ) → b ≤ 64 → 64 ≤ b → buf ≡ sets buf₀ at (numbers_text (listed (member s) b)) → buf ≡ sets buf₀ at (numbers_text (members s))
-unfolding members
-members-done s b at buf₀ buf h l e = let z : b ≡ 64 = omega arith in rw z at e
+pub members-done : (s next : ℕ) (buf whole : List ℕ) → s ≡ 0 → sets buf next (numbers_text (members s)) ≡ whole → buf ≡ whole
+unfolding numbers_text
+members-done s next buf whole e w = rw (e, members-zero) at w
 
 -- ---- a line
 
@@ -145,12 +109,6 @@ pub none_yet : (ws : List ℕ) → 0 ≡ ways_length 0 ws
 unfolding ways_length sum
 none_yet ws = refl
 
-pub length-all : (ws : List ℕ) (i a total : ℕ) → i ≤ a → a ≤ i → total ≡ ways_length i ws → total ≡ ways_length a ws
-length-all ws i a total h l e = let z : i ≡ a = omega arith in rw z at e
-
-pub place-all : (ws : List ℕ) (i a at next : ℕ) → i ≤ a → a ≤ i → next ≡ at + ways_length i ws → next ≡ at + ways_length a ws
-place-all ws i a at next h l e = let z : i ≡ a = omega arith in rw z at e
-
 -- room for way i + 1
 pub room-way : (ws : List ℕ) (i a at next size size₀ : ℕ) → i < a → size ≡ size₀ → next ≡ at + ways_length i ws → at + ways_length a ws ≤ size₀
     → next + way_bytes (size_of (get_or ws i 0)) ≤ size
@@ -176,3 +134,19 @@ unfolding ways_text
 ways-all at i a buf ws whole h w =
     let e : a - i ≡ 0 = omega arith in
     rw e at w
+
+-- ---- the first a of the ways, as a slice
+
+pub taken-length : (a : ℕ) (ws : List ℕ) → a ≤ length ws → ways_length (length (take a ws)) (take a ws) ≡ ways_length a ws
+unfolding ways_length bytes_at size_at
+taken-length a ws h =
+    rw (length-take-le a ws h)
+    (sum-eq _ _ a (λ i l. rw (get_or-take a ws i 0 l)))
+
+text-upto : (a more i : ℕ) (ws : List ℕ) → i + more ≤ a → ways_text more i (take a ws) ≡ ways_text more i ws
+unfolding ways_text
+text-upto a zero i ws h = refl
+text-upto a (suc more) i ws h = rw (get_or-take a ws i 0 (omega arith), text-upto a more (i + 1) ws (omega arith))
+
+pub taken-text : (a : ℕ) (ws : List ℕ) → a ≤ length ws → ways_text (length (take a ws)) 0 (take a ws) ≡ ways_text a 0 ws
+taken-text a ws h = rw (length-take-le a ws h) (text-upto a a 0 ws (omega arith))

@@ -22,8 +22,8 @@ use Rattle.decimal.proofs.Laws.{columns-length}
 use Rattle.decimal.proofs.Fields.{number-in}
 use Rattle.ways.specs.WayText.{members, numbers_text, way_front_bytes, way_bytes, way_front}
 use Rattle.ways.specs.Way.{count_in, number_is}
-use Rattle.ways.proofs.TextLaws.{front_length}
-use Rattle.ways.proofs.WayRoundTrip.{shape, size-members, WayIs}
+use Rattle.ways.proofs.TextLaws.{size-members, front_length}
+use Rattle.ways.proofs.WayRoundTrip.{shape, WayIs}
 
 -- field j of the numbers of a list
 numbers-at : (bs rest : List ℕ) (j : ℕ) → j < length bs → take 4 (drop (4 * j) (numbers_text bs ++ rest)) ≡ columns 4 (get_or bs j 0 + 1)

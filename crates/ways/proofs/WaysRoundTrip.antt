@@ -14,13 +14,12 @@ use Rattle.bounded.proofs.Bools.{clash}
 use Rattle.bounded.proofs.Sums.{sum-eq}
 use Rattle.sets.specs.Sets.{member, size_of}
 use Rattle.plan.specs.Limits.{most_ways}
-use Rattle.plan.specs.declared.Judged.TheVariants.{Fine, Form, Count, Sequence}
+use Rattle.std.specs.Prelude.{Result, Ok, Err}
 use Rattle.bounded.proofs.Filled.{filled}
 use Rattle.ways.specs.WayText.{way_bytes, way_text, ways_text, size_at, ways_length}
 use Rattle.ways.specs.Way.{way_line_of}
-use Rattle.ways.specs.Ways.{after_way, ways_of, no_ways, from_way_line, count_on, counts_listed, listed_on}
-use Rattle.ways.specs.declared.Way.{Way}
-use Rattle.ways.specs.declared.Way.TheVariants.{Members, Malformed, OutOfLimits, OutOfSequence}
+use Rattle.ways.specs.Ways.{way_fault_on, after_way, ways_of, no_ways, from_way_line, count_on, counts_listed, listed_on}
+use Rattle.ways.specs.declared.WayFault.{WayFault}
 use Rattle.ways.specs.declared.Ways.{Ways}
 use Rattle.ways.proofs.TextLaws.{way-length, length-step, none_yet}
 use Rattle.ways.proofs.WayRoundTrip.{way-read, WayIs, way-accepted}
@@ -51,16 +50,16 @@ pub record Writable (n s : ℕ) : Type 0 where
   pub small : s < 2 ^ n
 
 pub ways-read : (n first a i at : ℕ) (ws rest acc : List ℕ) → n ≤ 64 → ((k : ℕ) → i ≤ k → k < i + a → Writable n (get_or ws k 0))
-    → ways_of n first a i at (ways_text a i ws ++ rest) acc ≡ record { judged = Fine; next = at + length (ways_text a i ws); way = filled a i ws acc }
+    → ways_of n first a i at (ways_text a i ws ++ rest) acc ≡ record { judged = Ok tt; next = at + length (ways_text a i ws); way = filled a i ws acc }
 unfolding ways_of ways_text filled
-ways-read n first zero i at ws rest acc h v = ap (λ (p : ℕ). record { judged = Fine; next = p; way = acc }) (sym (add-zero at))
+ways-read n first zero i at ws rest acc h v = ap (λ (p : ℕ). record { judged = Ok tt; next = p; way = acc }) (sym (add-zero at))
 ways-read n first (suc a) i at ws rest acc h v =
     let s : ℕ = get_or ws i 0 in
     let more : List ℕ = ways_text a (i + 1) ws in
     let w : Writable n (get_or ws i 0) = v i (le_refl i) (omega arith) in
     let e : (way_text (get_or ws i 0) ++ ways_text a (i + 1) ws) ++ rest ≡ way_text (get_or ws i 0) ++ (ways_text a (i + 1) ws ++ rest) =
     append_assoc (way_text s) more rest in
-    let r : way_line_of n (way_text (get_or ws i 0) ++ (ways_text a (i + 1) ws ++ rest)) ≡ Members (size_of (get_or ws i 0)) (get_or ws i 0) =
+    let r : way_line_of n (way_text (get_or ws i 0) ++ (ways_text a (i + 1) ws ++ rest)) ≡ Ok (size_of (get_or ws i 0), get_or ws i 0) =
     way-read n s (more ++ rest) h w.some w.small in
     let d : drop (way_bytes (size_of (get_or ws i 0))) (way_text (get_or ws i 0) ++ (ways_text a (i + 1) ws ++ rest)) ≡ ways_text a (i + 1) ws ++ rest =
     drop_at (way_text s) (more ++ rest) (way_bytes (size_of s)) (way-length s) in
@@ -68,7 +67,7 @@ ways-read n first (suc a) i at ws rest acc h v =
     omega (arith, length-append (way_text s) more, way-length s) in
     rw (e, r, d)
     (ways-read n first a (i + 1) (at + way_bytes (size_of s)) ws rest (set acc i s) h (λ k l u. v k (omega arith) (omega arith))
-    ∙ ap (λ (q : ℕ). record { judged = Fine; next = q; way = filled a (i + 1) ws (set acc i s) }) p)
+    ∙ ap (λ (q : ℕ). record { judged = Ok tt; next = q; way = filled a (i + 1) ws (set acc i s) }) p)
 
 -- ---- what is accepted is what is written of it
 
@@ -117,7 +116,7 @@ module _ (n a i at next k s : ℕ) (rest acc ws : List ℕ) (h : i < length acc)
   }
 
 pub ways-accepted : (n first a i at next : ℕ) (rest acc ws : List ℕ) → n ≤ 64 → i + a ≤ length acc
-    → ways_of n first a i at rest acc ≡ record { judged = Fine; next = next; way = ws } → Accepted n a i at next rest acc ws
+    → ways_of n first a i at rest acc ≡ record { judged = Ok tt; next = next; way = ws } → Accepted n a i at next rest acc ws
 unfolding ways_of ways_text
 ways-accepted n first zero i at next rest acc ws h b e =
     let w : acc ≡ ws = ap (λ (r : Ways). r.way) e in
@@ -132,15 +131,15 @@ ways-accepted n first (suc a) i at next rest acc ws h b e =
     go (λ k s. ways-accepted n first a (i + 1) (at + way_bytes k) next (drop (way_bytes k) rest) (set acc i s) ws h (rw length-set (omega arith)))
     (way_line_of n rest) (λ k s. way-accepted n k s rest h) e
   where
-    go : ((k s : ℕ) → ways_of n first a (i + 1) (at + way_bytes k) (drop (way_bytes k) rest) (set acc i s) ≡ record { judged = Fine; next = next; way = ws }
+    go : ((k s : ℕ) → ways_of n first a (i + 1) (at + way_bytes k) (drop (way_bytes k) rest) (set acc i s) ≡ record { judged = Ok tt; next = next; way = ws }
         → Accepted n a (i + 1) (at + way_bytes k) next (drop (way_bytes k) rest) (set acc i s) ws)
-        → (x : Way) → ((k s : ℕ) → x ≡ Members k s → WayIs n k s rest)
+        → (x : Result (ℕ × ℕ) WayFault) → ((k s : ℕ) → x ≡ Ok (k, s) → WayIs n k s rest)
         → after_way x (first + i) at acc (λ k s. ways_of n first a (i + 1) (at + way_bytes k) (drop (way_bytes k) rest) (set acc i s))
-        ≡ record { judged = Fine; next = next; way = ws } → Accepted n (suc a) i at next rest acc ws
-    go more (Members k s) w j = one_line n a i at next k s rest acc ws (omega arith) (w k s refl) (more k s j)
-    go more Malformed w j = let z : Form (first + i) ≡ Fine = ap (λ (r : Ways). r.judged) j in clash true refl (cc)
-    go more OutOfLimits w j = let z : Count (first + i) ≡ Fine = ap (λ (r : Ways). r.judged) j in clash true refl (cc)
-    go more OutOfSequence w j = let z : Sequence (first + i) ≡ Fine = ap (λ (r : Ways). r.judged) j in clash true refl (cc)
+        ≡ record { judged = Ok tt; next = next; way = ws } → Accepted n (suc a) i at next rest acc ws
+    go more (Ok p) w j = one_line n a i at next p.0 p.1 rest acc ws (omega arith) (w p.0 p.1 refl) (more p.0 p.1 j)
+    go more (Err fault) w j =
+        let z : Err (way_fault_on fault (first + i)) ≡ Ok tt = ap (λ (r : Ways). r.judged) j in
+        clash true refl (cc)
 
 -- ---- from the first way on
 
@@ -158,7 +157,7 @@ pub record Read (n a at next : ℕ) (rest ws : List ℕ) : Type 0 where
   pub bookings : (w b : ℕ) → w < a → listed_on w b rest ≡ member (get_or ws w 0) b
 
 pub all-accepted : (n first a at next : ℕ) (rest ws : List ℕ) → n ≤ 64 → a ≤ most_ways
-    → ways_of n first a 0 at rest no_ways ≡ record { judged = Fine; next = next; way = ws } → Read n a at next rest ws
+    → ways_of n first a 0 at rest no_ways ≡ record { judged = Ok tt; next = next; way = ws } → Read n a at next rest ws
 unfolding counts_listed listed_on count_on size_at
 all-accepted n first a at next rest ws h b e =
     let t : Accepted n a 0 at next rest no_ways ws = ways-accepted n first a 0 at next rest no_ways ws h (omega (arith, none-length)) e in
@@ -174,7 +173,7 @@ all-accepted n first a at next rest ws h b e =
 
 -- what is written of a ways reads back as those ways
 pub all_read : (n first a at : ℕ) (ws rest : List ℕ) → n ≤ 64 → ((k : ℕ) → k < a → Writable n (get_or ws k 0))
-    → ways_of n first a 0 at (ways_text a 0 ws ++ rest) no_ways ≡ record { judged = Fine; next = at + ways_length a ws; way = filled a 0 ws no_ways }
+    → ways_of n first a 0 at (ways_text a 0 ws ++ rest) no_ways ≡ record { judged = Ok tt; next = at + ways_length a ws; way = filled a 0 ws no_ways }
 all_read n first a at ws rest h v =
     ways-read n first a 0 at ws rest no_ways h (λ k l u. v k (omega arith))
-    ∙ ap (λ (q : ℕ). record { judged = Fine; next = at + q; way = filled a 0 ws no_ways }) (ways-length a ws)
+    ∙ ap (λ (q : ℕ). record { judged = Ok tt; next = at + q; way = filled a 0 ws no_ways }) (ways-length a ws)

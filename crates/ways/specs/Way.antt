@@ -2,45 +2,38 @@
 -- the numbers for their sequence. So a count outside its limits is told before anything that follows it, and a surplus number is a
 -- fault of form. Then what a line that was accepted has in its columns.
 -- Assumes nothing.
-use Rattle.std.specs.Prelude.{Bool, true, false, cond, List, ℕ, zero, suc, ◌+◌, ◌*◌, ◌-◌, eqb, get_or, take, drop}
+use Rattle.std.specs.Prelude.{Bool, cond, List, ℕ, zero, suc, ◌+◌, ◌*◌, ◌-◌, eqb, get_or, take, drop, Result, Ok, Err, is_ok}
 use Rattle.bounded.specs.Bounded.{all}
 use Rattle.sets.specs.Sets.{insert}
 use Rattle.plan.specs.Limits.{within}
-use Rattle.decimal.specs.Decimal.{field_at, number_at}
-use Rattle.decimal.specs.declared.Field.{Field}
-use Rattle.decimal.specs.declared.Field.TheVariants.{Number, Blank, Fault}
+use Rattle.decimal.specs.Decimal.{Field, field_at, number_at}
+use Rattle.decimal.specs.declared.NoNumber.TheVariants as N
+use Rattle.lines.specs.declared.LineFault.{LineFault}
+use Rattle.lines.specs.declared.LineFault.TheVariants as L
 use Rattle.ways.specs.WayText.{way_front_bytes}
-use Rattle.ways.specs.declared.Gathered.{Gathered}
-use Rattle.ways.specs.declared.Gathered.TheVariants as G
-use Rattle.ways.specs.declared.Way.{Way}
-use Rattle.ways.specs.declared.Way.TheVariants.{Members, Malformed, OutOfLimits, OutOfSequence}
+use Rattle.ways.specs.declared.WayFault.{WayFault}
+use Rattle.ways.specs.declared.WayFault.TheVariants.{Malformed, OutOfLimits, OutOfSequence}
 
 -- the count at the front of a line, after the letter
 unfoldable pub count_of : List ℕ → Field
-count_of front = cond (eqb (get_or front 0 0) 65) (field_at 4 1 front) Fault
-
-abbrev pub is_number : Field → Bool
-is_number (Number x) = true
-is_number Blank = false
-is_number Fault = false
+count_of front = cond (eqb (get_or front 0 0) 65) (field_at 4 1 front) (Err N.Fault)
 
 -- field j is a number
 unfoldable pub number_there : List ℕ → ℕ → Bool
-number_there fields j = is_number (field_at 4 (4 * j) fields)
+number_there fields j = is_ok (field_at 4 (4 * j) fields)
 
 -- past a number that is out of sequence, k more fields decide between form and sequence
-unfoldable pub sequence_or_form : ℕ → List ℕ → Gathered
-sequence_or_form k fields = cond (all (number_there fields) k) G.OutOfSequence G.Malformed
+unfoldable pub sequence_or_form : ℕ → List ℕ → LineFault
+sequence_or_form k fields = cond (all (number_there fields) k) L.OutOfSequence L.Malformed
 
 -- on with a number that is above the last and at most n
-abbrev pub after_number : Field → ℕ → ℕ → Gathered → (ℕ → Gathered) → Gathered
-after_number (Number x) n last refused next = cond (within (last + 1) x n) (next x) refused
-after_number Blank n last refused next = G.Malformed
-after_number Fault n last refused next = G.Malformed
+abbrev pub after_number : Field → ℕ → ℕ → LineFault → (ℕ → Result ℕ LineFault) → Result ℕ LineFault
+after_number (Ok x) n last refused next = cond (within (last + 1) x n) (next x) (Err refused)
+after_number (Err none) n last refused next = Err L.Malformed
 
 -- the set s with k numbers more, which rise strictly from above last and are at most n; booking number x has index x - 1
-unfoldable pub gather_of : ℕ → ℕ → ℕ → ℕ → List ℕ → Gathered
-gather_of n last s zero fields = G.Set s
+unfoldable pub gather_of : ℕ → ℕ → ℕ → ℕ → List ℕ → Result ℕ LineFault
+gather_of n last s zero fields = Ok s
 gather_of n last s (suc k) fields =
     after_number (field_at 4 0 fields) n last (sequence_or_form k (drop 4 fields)) (λ x. gather_of n x (insert s (x - 1)) k (drop 4 fields))
 
@@ -48,23 +41,26 @@ gather_of n last s (suc k) fields =
 unfoldable pub line_feed_at : ℕ → List ℕ → Bool
 line_feed_at at rest = eqb (get_or rest at 0) 10
 
-abbrev pub as_way : ℕ → Gathered → Way
-as_way k (G.Set s) = Members k s
-as_way k G.Malformed = Malformed
-as_way k G.OutOfSequence = OutOfSequence
+-- why a line is refused for its numbers
+abbrev pub way_fault : LineFault → WayFault
+way_fault L.Malformed = Malformed
+way_fault L.OutOfSequence = OutOfSequence
+
+abbrev pub as_way : ℕ → Result ℕ LineFault → Result (ℕ × ℕ) WayFault
+as_way k (Ok s) = Ok (k, s)
+as_way k (Err fault) = Err (way_fault fault)
 
 -- the line after its count k: form, then sequence
-unfoldable pub members_of : ℕ → ℕ → List ℕ → Way
-members_of n k rest = cond (line_feed_at (way_front_bytes + 4 * k) rest) (as_way k (gather_of n 0 0 k (drop way_front_bytes rest))) Malformed
+unfoldable pub members_of : ℕ → ℕ → List ℕ → Result (ℕ × ℕ) WayFault
+members_of n k rest = cond (line_feed_at (way_front_bytes + 4 * k) rest) (as_way k (gather_of n 0 0 k (drop way_front_bytes rest))) (Err Malformed)
 
 -- a way has 1 to n bookings
-abbrev pub after_count : Field → ℕ → List ℕ → Way
-after_count (Number k) n rest = cond (within 1 k n) (members_of n k rest) OutOfLimits
-after_count Blank n rest = Malformed
-after_count Fault n rest = Malformed
+abbrev pub after_count : Field → ℕ → List ℕ → Result (ℕ × ℕ) WayFault
+after_count (Ok k) n rest = cond (within 1 k n) (members_of n k rest) (Err OutOfLimits)
+after_count (Err none) n rest = Err Malformed
 
--- the first line of the rest of a sheet, as a way of a plan with n bookings
-unfoldable pub way_line_of : ℕ → List ℕ → Way
+-- the first line of the rest of a sheet, as a way of a plan with n bookings: how many bookings it has, and their set
+unfoldable pub way_line_of : ℕ → List ℕ → Result (ℕ × ℕ) WayFault
 way_line_of n rest = after_count (count_of (take way_front_bytes rest)) n rest
 
 -- ---- the columns of that line

@@ -1,6 +1,6 @@
 -- The text of a way: `A`, how many bookings it has, their numbers rising, a line feed; numbers in four columns.
 -- Assumes nothing.
-use Rattle.std.specs.Prelude.{cond, List, [], ◌∷◌, ◌++◌, ℕ, zero, suc, ◌+◌, ◌*◌, get_or}
+use Rattle.std.specs.Prelude.{List, [], ◌∷◌, ◌++◌, ℕ, zero, suc, ◌+◌, ◌*◌, get_or}
 use Rattle.bounded.specs.Bounded.{listed, sum}
 use Rattle.sets.specs.Sets.{member, size_of}
 use Rattle.decimal.specs.Decimal.{columns}
@@ -13,10 +13,6 @@ members s = listed (member s) 64
 unfoldable pub numbers_text : List ℕ → List ℕ
 numbers_text [] = []
 numbers_text (b ∷ bs) = columns 4 (b + 1) ++ numbers_text bs
-
--- the number of the booking b, where it is in s
-unfoldable pub member_text : ℕ → ℕ → List ℕ
-member_text s b = numbers_text (cond (member s b) (b ∷ []) [])
 
 -- a way line has so many bytes in front of its numbers, its letter and its count; and so many in all, with k numbers and the line feed
 abbrev pub way_front_bytes : ℕ

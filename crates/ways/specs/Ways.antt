@@ -1,25 +1,30 @@
 -- Reading the way lines of a sheet; and what they list, by their columns alone.
 -- Assumes nothing.
-use Rattle.std.specs.Prelude.{Bool, List, ℕ, zero, suc, ◌+◌, drop, set, replicate}
+use Rattle.std.specs.Prelude.{Bool, List, ℕ, zero, suc, ◌+◌, drop, set, replicate, Result, Ok, Err}
 use Rattle.bounded.specs.Bounded.{any, sum}
 use Rattle.plan.specs.Limits.{most_ways}
-use Rattle.plan.specs.declared.Judged.TheVariants.{Fine, Form, Count, Sequence}
+use Rattle.plan.specs.declared.Fault.{Fault}
+use Rattle.plan.specs.declared.Fault.TheVariants as J
 use Rattle.ways.specs.WayText.{way_bytes}
 use Rattle.ways.specs.Way.{way_line_of, count_in, number_is}
-use Rattle.ways.specs.declared.Way.{Way}
-use Rattle.ways.specs.declared.Way.TheVariants.{Members, Malformed, OutOfLimits, OutOfSequence}
+use Rattle.ways.specs.declared.WayFault.{WayFault}
+use Rattle.ways.specs.declared.WayFault.TheVariants.{Malformed, OutOfLimits, OutOfSequence}
 use Rattle.ways.specs.declared.Ways.{Ways}
 
+-- what is wrong with a sheet whose way on line l is refused
+abbrev pub way_fault_on : WayFault → ℕ → Fault
+way_fault_on Malformed l = J.Form l
+way_fault_on OutOfLimits l = J.Count l
+way_fault_on OutOfSequence l = J.Sequence l
+
 -- on with the bookings that a line lists, or refused at line l with the ways so far
-abbrev pub after_way : Way → ℕ → ℕ → List ℕ → (ℕ → ℕ → Ways) → Ways
-after_way (Members k s) l at ws next = next k s
-after_way Malformed l at ws next = record { judged = Form l; next = at; way = ws }
-after_way OutOfLimits l at ws next = record { judged = Count l; next = at; way = ws }
-after_way OutOfSequence l at ws next = record { judged = Sequence l; next = at; way = ws }
+abbrev pub after_way : Result (ℕ × ℕ) WayFault → ℕ → ℕ → List ℕ → (ℕ → ℕ → Ways) → Ways
+after_way (Ok way) l at ws next = next way.0 way.1
+after_way (Err fault) l at ws next = record { judged = Err (way_fault_on fault l); next = at; way = ws }
 
 -- the ways of the first lines of the rest of a sheet, from way i + 1 on, which stands on line first + i and at place at
 unfoldable pub ways_of : ℕ → ℕ → ℕ → ℕ → ℕ → List ℕ → List ℕ → Ways
-ways_of n first zero i at rest ws = record { judged = Fine; next = at; way = ws }
+ways_of n first zero i at rest ws = record { judged = Ok tt; next = at; way = ws }
 ways_of n first (suc more) i at rest ws =
     after_way (way_line_of n rest) (first + i) at ws (λ k s. ways_of n first more (i + 1) (at + way_bytes k) (drop (way_bytes k) rest) (set ws i s))
 

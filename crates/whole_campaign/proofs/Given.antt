@@ -14,8 +14,8 @@ use Rattle.run.specs.Bytes.{bytes_of, run_of}
 use Rattle.run.specs.declared.Run.{Run}
 use Rattle.run.proofs.Facts.{Sound}
 use Rattle.event_lines.specs.Line.{line_of, lines_from}
-use Rattle.event_lines.specs.declared.Line.{Line}
-use Rattle.event_lines.specs.declared.Line.TheVariants.{Given, Misformed}
+use Rattle.std.specs.Prelude.{Option, Some, None}
+use Rattle.event_lines.specs.declared.Event.{Event}
 use Rattle.guarantee.specs.Answers.{place9, reply_bits}
 use Rattle.guarantee.specs.Machine.{Asked, replied, reply_to, answer, after, machine_answers, final}
 use Rattle.guarantee.specs.Counted.{accepts}
@@ -35,26 +35,27 @@ use Rattle.whole_campaign.proofs.Whole.{gives-is, leaves-is, answers-is, left_is
 -- the line after the kept ones: its reply does not fit
 module _ (g : Network) where
   by-line : (n : ℕ) (r : Run) (t : List ℕ) (l b : ℕ)
-      → ((s : Run) → length (kept_of g s (lines_from n (drop 6 t))) < n → line_of (take 6 (drop (6 * length (kept_of g s (lines_from n (drop 6 t)))) (drop 6 t))) ≡ Given l b
+      → ((s : Run) → length (kept_of g s (lines_from n (drop 6 t))) < n → line_of (take 6 (drop (6 * length (kept_of g s (lines_from n (drop 6 t)))) (drop 6 t))) ≡ Some (record { letter = l; booking = b })
       → (reply_to g (final g s (kept_of g s (lines_from n (drop 6 t)))) l b).taken ≡ false)
-      → (line : Line) → line_of (take 6 t) ≡ line → length (kept_of g r (line ∷ lines_from n (drop 6 t))) < suc n
-      → line_of (take 6 (drop (6 * length (kept_of g r (line ∷ lines_from n (drop 6 t)))) t)) ≡ Given l b
+      → (line : Option Event) → line_of (take 6 t) ≡ line → length (kept_of g r (line ∷ lines_from n (drop 6 t))) < suc n
+      → line_of (take 6 (drop (6 * length (kept_of g r (line ∷ lines_from n (drop 6 t)))) t)) ≡ Some (record { letter = l; booking = b })
       → (reply_to g (final g r (kept_of g r (line ∷ lines_from n (drop 6 t)))) l b).taken ≡ false
   unfolding kept_of final after
-  by-line n r t l b rest (Given m c) e h q = elim (which (reply_to g r m c).taken) [
-    | inl k ↦ (let m' : ℕ = length (kept_of g (reply_to g r m c).run (lines_from n (drop 6 t))) in
+  by-line n r t l b rest (Some v) e h q = elim (which (reply_to g r v.letter v.booking).taken) [
+    | inl k ↦ (let m' : ℕ = length (kept_of g (reply_to g r v.letter v.booking).run (lines_from n (drop 6 t))) in
         let w : 6 * suc m' ≡ 6 + 6 * m' = omega arith in
         let h' : suc m' < suc n = rw k at h in
-        let q' : line_of (take 6 (drop (6 * suc m') t)) ≡ Given l b = rw k at q in
-        rw k (rest (reply_to g r m c).run (omega arith) (rw (drop-drop (6 * m') 6 t, ← w) q')))
-    | inr k ↦ (let q' : line_of (take 6 t) ≡ Given l b = rw k at q in
-        let y : m ≡ l = cc in
-        let z : c ≡ b = cc in
+        let q' : line_of (take 6 (drop (6 * suc m') t)) ≡ Some (record { letter = l; booking = b }) = rw k at q in
+        rw k (rest (reply_to g r v.letter v.booking).run (omega arith) (rw (drop-drop (6 * m') 6 t, ← w) q')))
+    | inr k ↦ (let q' : line_of (take 6 t) ≡ Some (record { letter = l; booking = b }) = rw k at q in
+        let x : v ≡ record { letter = l; booking = b } = cc in
+        let y : v.letter ≡ l = ap (λ (x : Event). x.letter) x in
+        let z : v.booking ≡ b = ap (λ (x : Event). x.booking) x in
         rw k (rw (← y, ← z) k))
   ]
-  by-line n r t l b rest Misformed e h q = let z : ◌≡◌ {A = ℕ} 0 1 = cc in absurd (omega arith)
+  by-line n r t l b rest None e h q = let z : ◌≡◌ {A = ℕ} 0 1 = cc in absurd (omega arith)
 
-  next-bad : (n : ℕ) (r : Run) (t : List ℕ) (l b : ℕ) → length (kept_of g r (lines_from n t)) < n → line_of (take 6 (drop (6 * length (kept_of g r (lines_from n t))) t)) ≡ Given l b
+  next-bad : (n : ℕ) (r : Run) (t : List ℕ) (l b : ℕ) → length (kept_of g r (lines_from n t)) < n → line_of (take 6 (drop (6 * length (kept_of g r (lines_from n t))) t)) ≡ Some (record { letter = l; booking = b })
       → (reply_to g (final g r (kept_of g r (lines_from n t))) l b).taken ≡ false
   unfolding lines_from
   next-bad zero r t l b h q = absurd (omega arith)
@@ -98,7 +99,7 @@ module _ (s bs : List ℕ) (o : in_order s bs ≡ true) where
     unfolding gives_by parts
     told = rw bits (told-kept (network_in s) (passing s passes) old old-sound lines)
 
-    next-refused : 6 * length kept < length lines → (l b : ℕ) → line_of (take 6 (drop (6 * length kept) lines)) ≡ Given l b → accepts (asked_call s (bytes_of new) (replied l b)) ≡ false
+    next-refused : 6 * length kept < length lines → (l b : ℕ) → line_of (take 6 (drop (6 * length kept) lines)) ≡ Some (record { letter = l; booking = b }) → accepts (asked_call s (bytes_of new) (replied l b)) ≡ false
     unfolding parts lines_of gives gives_by leaves_by block_of answer reply_bits accepts
     next-refused h l b q =
         let n : (reply_to (network_in s) new l b).taken ≡ false = next-bad (network_in s) ((length lines + 5) / 6) old lines l b (omega arith) q in

@@ -15,8 +15,8 @@ use Rattle.verdict.proofs.Facts.{Passes}
 use Rattle.run.specs.declared.Run.{Run}
 use Rattle.run.proofs.Facts.{Sound}
 use Rattle.event_lines.specs.Line.{line_of, is_order, lines_from}
-use Rattle.event_lines.specs.declared.Line.{Line}
-use Rattle.event_lines.specs.declared.Line.TheVariants.{Given, Misformed}
+use Rattle.std.specs.Prelude.{Option, Some, None}
+use Rattle.event_lines.specs.declared.Event.{Event}
 use Rattle.guarantee.specs.Answers.{pack, reply_bits}
 use Rattle.guarantee.specs.Machine.{Asked, replied, reply_to, answer, after, machine_answers, final}
 use Rattle.guarantee.specs.Counted.{accepts}
@@ -47,14 +47,14 @@ module _ (g : Network) where
 
   -- they are its first lines
   by-line : (n : ℕ) (r : Run) (t : List ℕ) → ((s : Run) → calls_from (length (kept_of g s (lines_from n (drop 6 t)))) (drop 6 t) ≡ kept_of g s (lines_from n (drop 6 t)))
-      → (line : Line) → line_of (take 6 t) ≡ line → calls_from (length (kept_of g r (line ∷ lines_from n (drop 6 t)))) t ≡ kept_of g r (line ∷ lines_from n (drop 6 t))
+      → (line : Option Event) → line_of (take 6 t) ≡ line → calls_from (length (kept_of g r (line ∷ lines_from n (drop 6 t)))) t ≡ kept_of g r (line ∷ lines_from n (drop 6 t))
   unfolding calls_from kept_of call_on reply_on
-  by-line n r t rest (Given l b) e = elim (which (reply_to g r l b).taken) [
-    | inl k ↦ (let o : is_order l ≡ false = off (is_order l) (λ z. clash (reply_to g r l b).taken k (order-misfits g r l b z)) in
-        rw (k, e, o) (ap (λ (qs : List Asked). replied l b ∷ qs) (rest (reply_to g r l b).run)))
+  by-line n r t rest (Some v) e = elim (which (reply_to g r v.letter v.booking).taken) [
+    | inl k ↦ (let o : is_order v.letter ≡ false = off (is_order v.letter) (λ z. clash (reply_to g r v.letter v.booking).taken k (order-misfits g r v.letter v.booking z)) in
+        rw (k, e, o) (ap (λ (qs : List Asked). replied v.letter v.booking ∷ qs) (rest (reply_to g r v.letter v.booking).run)))
     | inr k ↦ rw k
   ]
-  by-line n r t rest Misformed e = refl
+  by-line n r t rest None e = refl
 
   kept-calls : (n : ℕ) (r : Run) (t : List ℕ) → calls_from (length (kept_of g r (lines_from n t))) t ≡ kept_of g r (lines_from n t)
   unfolding calls_from kept_of lines_from
@@ -62,14 +62,14 @@ module _ (g : Network) where
   kept-calls (suc n) r t = by-line n r t (λ s. kept-calls n s (drop 6 t)) (line_of (take 6 t)) refl
 
   -- each of them is accepted
-  kept-answers : (r : Run) (lines : List Line) → map kept_as (kept_of g r lines) ≡ machine_answers g r (kept_of g r lines)
+  kept-answers : (r : Run) (lines : List (Option Event)) → map kept_as (kept_of g r lines) ≡ machine_answers g r (kept_of g r lines)
   unfolding kept_of machine_answers kept_as answer after reply_bits
   kept-answers r [] = refl
-  kept-answers r (Given l b ∷ lines) = elim (which (reply_to g r l b).taken) [
-    | inl k ↦ rw (k, k) (ap (λ (xs : List ℕ). pack 6 0 b ∷ xs) (kept-answers (reply_to g r l b).run lines))
+  kept-answers r (Some v ∷ lines) = elim (which (reply_to g r v.letter v.booking).taken) [
+    | inl k ↦ rw (k, k) (ap (λ (xs : List ℕ). pack 6 0 v.booking ∷ xs) (kept-answers (reply_to g r v.letter v.booking).run lines))
     | inr k ↦ rw k
   ]
-  kept-answers r (Misformed ∷ lines) = refl
+  kept-answers r (None ∷ lines) = refl
 
 -- and the answer tells how many there are
 kept-told : (t : Block) → t.kept ≤ 64 → t.fault ≤ 9 → kept_by (block_bits t) ≡ t.kept

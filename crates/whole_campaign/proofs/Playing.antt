@@ -2,11 +2,13 @@
 -- Assumes nothing.
 use mathlib.Core.Path.{◌≡◌, refl, sym, ap, ◌∙◌}
 use mathlib.Core.List.{List, [], ◌∷◌, ◌++◌, append_assoc}
-use Prim.Native.Nat.{ℕ, suc, ◌+◌, ◌-◌, ◌*◌, ◌/◌, ◌%◌, ◌≤◌, ◌<◌}
+use Prim.Native.Nat.{ℕ, suc, ◌+◌, ◌-◌, ◌*◌, ◌/◌, ◌%◌, ◌^◌, ◌≤◌, ◌<◌}
 use native.Mathlib.Omega.{arith}
 use borrow.Author.Tests.{eq-eqb, ne_eqb, le-leb, lt-leb}
 use lib.ListN.{length, get_or, take, drop, length-append}
 use lib.Seq.{sets}
+use Rattle.std.proofs.Common.{w32}
+use Rattle.std.specs.Int.{to_be_bytes}
 use Rattle.decimal.proofs.Stores.{sets-append}
 use Rattle.run.specs.State.{start}
 use Rattle.run.specs.Bytes.{bytes_of}
@@ -40,23 +42,15 @@ pub word-length : (x : ℕ) → length (word_text x) ≡ 4
 unfolding word_text
 word-length x = refl
 
--- five stores one after the other
-pub stored_answer : (d : List ℕ) (at x : ℕ) (bs : List ℕ)
-    → sets (sets (sets (sets (sets d at (x / 16777216 ∷ [])) (at + 1) (x / 65536 % 256 ∷ [])) (at + 2) (x / 256 % 256 ∷ [])) (at + 3) (x % 256 ∷ [])) (at + 4) bs
-    ≡ sets d at (word_text x ++ bs)
+word-bytes : (x : ℕ) → x < 2 ^ 32 → to_be_bytes w32 x ≡ word_text x
 unfolding word_text
-stored_answer d at x bs =
-    let e1 = sets-append d at (x / 16777216 ∷ []) (x / 65536 % 256 ∷ x / 256 % 256 ∷ x % 256 ∷ bs) in
-    let e2 = sets-append (sets d at (x / 16777216 ∷ [])) (at + 1) (x / 65536 % 256 ∷ []) (x / 256 % 256 ∷ x % 256 ∷ bs) in
-    let d2 : List ℕ = sets (sets d at (x / 16777216 ∷ [])) (at + 1) (x / 65536 % 256 ∷ []) in
-    let p2 : at + 1 + 1 ≡ at + 2 = omega arith in
-    let e3 = sets-append d2 (at + 2) (x / 256 % 256 ∷ []) (x % 256 ∷ bs) in
-    let d3 : List ℕ = sets d2 (at + 2) (x / 256 % 256 ∷ []) in
-    let p3 : at + 2 + 1 ≡ at + 3 = omega arith in
-    let e4 = sets-append d3 (at + 3) (x % 256 ∷ []) bs in
-    let p4 : at + 3 + 1 ≡ at + 4 = omega arith in
-    sym (e1 ∙ e2 ∙ ap (λ (k : ℕ). sets d2 k (x / 256 % 256 ∷ x % 256 ∷ bs)) p2 ∙ e3 ∙ ap (λ (k : ℕ). sets d3 k (x % 256 ∷ bs)) p3 ∙ e4
-    ∙ ap (λ (k : ℕ). sets (sets d3 (at + 3) (x % 256 ∷ [])) k bs) p4)
+word-bytes x h = let e : x / 16777216 % 256 ≡ x / 16777216 = omega arith in rw e
+
+-- an answer and then the state
+pub stored_answer : (d : List ℕ) (at x : ℕ) (bs : List ℕ) → x < 2 ^ 32 → sets (sets d at (to_be_bytes w32 x)) (at + 4) bs ≡ sets d at (word_text x ++ bs)
+stored_answer d at x bs h =
+    let n : at + 4 ≡ at + length (word_text x) = omega (arith, word-length x) in
+    ap (λ (t : List ℕ). sets (sets d at t) (at + 4) bs) (word-bytes x h) ∙ ap (λ (k : ℕ). sets (sets d at (word_text x)) k bs) n ∙ sym (sets-append d at (word_text x) bs)
 
 -- ---- one turn
 

@@ -1,4 +1,4 @@
--- Demand 3, on the code's own calls: what holds of a whole campaign, and that it is semi-atomic.
+-- What the campaign guarantees, on the code's own calls: what holds of a whole campaign, which never strands, and that it is semi-atomic.
 -- The sheet s passes, start has been accepted with it and left the state bs; then the list cs of next orders, replies and blocks of replies is
 -- made, in any mixture, the replies with any letter and any booking, the blocks with any bytes. In the count a block is the replies that it
 -- keeps, given singly. The lists are by what the contracts of the calls for C say.

@@ -17,22 +17,20 @@ use Rattle.plan.specs.Limits.{most_bookings, most_links, most_ways, ours, counte
 use Rattle.plan.specs.Record.{record_of}
 use Rattle.plan.specs.declared.Limits.{Limits}
 use Rattle.plan.specs.declared.Plan.{Plan}
-use Rattle.plan.specs.declared.Judged.TheVariants.{Fine}
-use Rattle.plan.specs.declared.Judgement.{Judgement}
-use Rattle.plan.specs.declared.Judgement.TheVariants as R
+use Rattle.std.specs.Prelude.{⊤, Result, Ok, Err}
+use Rattle.plan.specs.declared.RecordFault.{RecordFault}
 use Rattle.bounded.proofs.Filled.{filled, filled_at, filled-past}
 use Rattle.plan.proofs.Valid.{valid, fine-counted}
 use Rattle.lines.specs.Bookings.{no_bookings}
-use Rattle.lines.specs.Links.{no_links}
+use Rattle.plan.specs.Links.{no_links}
 use Rattle.ways.specs.Ways.{no_ways}
-use Rattle.sheet.specs.Sheet.{sheet_within}
+use Rattle.sheet.specs.Sheet.{Sheet, sheet_within}
 use Rattle.sheet.specs.Text.{sheet_text}
-use Rattle.sheet.specs.declared.Sheet.{Sheet}
 use Rattle.sheet.proofs.Accepted.{sheet-fine, sheet-accepted}
 use Rattle.sheet.proofs.ReadSheet.{read_plan, sheet-read}
 use Rattle.writer.specs.Written.{fine_answer, answer_by, written_of, leaves}
 use Rattle.writer.specs.ReadBack.{Copied, ReadBack}
-use Rattle.writer.specs.declared.Written.TheVariants.{Length, Count, Sequence, Short}
+use Rattle.writer.specs.declared.WriteFault.TheVariants.{Short}
 
 -- ---- entries read back into zeros
 
@@ -42,7 +40,7 @@ copied n most xs h = record {
   past = λ i l. filled-past n 0 xs (replicate most 0) i (omega arith) ∙ zeros-at most i;
 }
 
-pub plan-read : (p : Plan) → record_of p ≡ R.Fine → ReadBack p (read_plan p)
+pub plan-read : (p : Plan) → record_of p ≡ Ok tt → ReadBack p (read_plan p)
 unfolding read_plan no_bookings no_links no_ways
 plan-read p e = let l = (valid p e).counts in record {
   bookings = refl;
@@ -60,28 +58,27 @@ plan-read p e = let l = (valid p e).counts in record {
 
 -- a record that the writer takes is fine, and the length that is given is that of its sheet
 record Taken (p : Plan) (k : ℕ) : Type 0 where
-  fine : record_of p ≡ R.Fine
+  fine : record_of p ≡ Ok tt
   long : length (sheet_text p) ≡ k
 
-taken : (p : Plan) (size k : ℕ) → written_of p size ≡ Length k → Taken p k
+taken : (p : Plan) (size k : ℕ) → written_of p size ≡ Ok k → Taken p k
 unfolding written_of fine_answer
 taken p size k = go (record_of p) refl
   where
-    fit : (b : Bool) → record_of p ≡ R.Fine → cond b (Length (length (sheet_text p))) Short ≡ Length k → Taken p k
+    fit : (b : Bool) → record_of p ≡ Ok tt → cond b (Ok (length (sheet_text p))) (Err Short) ≡ Ok k → Taken p k
     fit true f q = record { fine = f; long = cc }
     fit false f q = clash true refl cc
 
-    go : (r : Judgement) → record_of p ≡ r → answer_by r p size ≡ Length k → Taken p k
-    go R.Fine f q = fit (leb (length (sheet_text p)) size) f q
-    go R.Count f q = clash true refl cc
-    go R.Sequence f q = clash true refl cc
+    go : (r : Result ⊤ RecordFault) → record_of p ≡ r → answer_by r p size ≡ Ok k → Taken p k
+    go (Ok tt) f q = fit (leb (length (sheet_text p)) size) f q
+    go (Err fault) f q = clash true refl cc
 
 -- the front that the writer leaves is an accepted sheet, and its plan is the record
 pub record Reads (most : Limits) (p : Plan) (s : List ℕ) : Type 0 where
-  pub accepted : (sheet_within most s).judged ≡ Fine
+  pub accepted : (sheet_within most s).judged ≡ Ok tt
   pub same : ReadBack p (sheet_within most s).plan
 
-module _ (p : Plan) (d : List ℕ) (k : ℕ) (e : written_of p (length d) ≡ Length k) where
+module _ (p : Plan) (d : List ℕ) (k : ℕ) (e : written_of p (length d) ≡ Ok k) where
   -- to each caller that takes so much
   pub written-within : (most : Limits) → counted most p.n p.m p.a ≡ true → Reads most p (take k (leaves p d))
   unfolding leaves
@@ -96,7 +93,7 @@ module _ (p : Plan) (d : List ℕ) (k : ℕ) (e : written_of p (length d) ≡ Le
 
 -- an accepted sheet, read and written, is the same bytes
 module _ (most : Limits) (s d : List ℕ) (e : is_fine (sheet_within most s).judged ≡ true) (h : length s ≤ length d) where
-  pub read_answer : written_of (sheet_within most s).plan (length d) ≡ Length (length s)
+  pub read_answer : written_of (sheet_within most s).plan (length d) ≡ Ok (length s)
   unfolding written_of fine_answer
   read_answer = rw (sheet-fine most s e, sheet-accepted most s e, le-leb _ _ h)
 

@@ -11,8 +11,8 @@ use borrow.Author.Tests.{le-leb, lt-leb}
 use Rattle.decimal.proofs.Stores.{sets-append}
 use Rattle.plan.specs.Record.{record_of}
 use Rattle.plan.specs.declared.Plan.{Plan}
-use Rattle.plan.specs.declared.Judgement.{Judgement}
-use Rattle.plan.specs.declared.Judgement.TheVariants as R
+use Rattle.std.specs.Prelude.{Ok, Err}
+use Rattle.plan.specs.declared.RecordFault.{RecordFault}
 use Rattle.lines.specs.Form.{head_bytes, links_place, ways_place}
 use Rattle.lines.specs.Head.{head_text}
 use Rattle.lines.specs.Bookings.{bookings_text}
@@ -21,9 +21,8 @@ use Rattle.lines.proofs.Lengths.{head-length, bookings-length, links-length}
 use Rattle.ways.specs.WayText.{ways_text}
 use Rattle.sheet.specs.Text.{sheet_text, sheet_length}
 use Rattle.sheet.proofs.ReadSheet.{sheet-length}
-use Rattle.writer.specs.Written.{fine_answer, written_of, left_by, leaves}
-use Rattle.writer.specs.declared.Written.{Written}
-use Rattle.writer.specs.declared.Written.TheVariants.{Length, Count, Sequence, Short}
+use Rattle.writer.specs.Written.{write_fault, fine_answer, written_of, left_by, leaves}
+use Rattle.writer.specs.declared.WriteFault.TheVariants.{Short}
 
 -- ---- the four kinds of lines, stored one after the other
 
@@ -48,14 +47,14 @@ module _ (p : Plan) (k : ℕ) (e : k ≡ sheet_length p) where
   the-length : length (sheet_text p) ≡ k
   the-length = sheet-length p ∙ sym e
 
-  pub too_short : (size : ℕ) → size < k → Short ≡ fine_answer p size
+  pub too_short : (size : ℕ) → size < k → Err Short ≡ fine_answer p size
   unfolding fine_answer
   too_short size h = rw (the-length, lt-leb _ _ h)
 
   pub left_alone : (d : List ℕ) → length d < k → d ≡ left_by (fine_answer p (length d)) p d
   left_alone d h = rw (← (too_short (length d) h))
 
-  pub its-length : (size : ℕ) → k ≤ size → Length k ≡ fine_answer p size
+  pub its-length : (size : ℕ) → k ≤ size → Ok k ≡ fine_answer p size
   unfolding fine_answer
   its-length size h = rw (the-length, le-leb _ _ h)
 
@@ -66,28 +65,19 @@ module _ (p : Plan) (k : ℕ) (e : k ≡ sheet_length p) where
 
 -- ---- the judgement of the record comes first
 
-module _ (p : Plan) (r : Judgement) (e : r ≡ record_of p) (d : List ℕ) where
-  module _ (g : r ≡ R.Fine) where
-    pub fine-answer : (a : Written) → a ≡ fine_answer p (length d) → a ≡ written_of p (length d)
-    unfolding written_of
-    fine-answer a i = i ∙ rw (← e, g)
-
-    pub fine-left : (x : List ℕ) → x ≡ left_by (fine_answer p (length d)) p d → x ≡ leaves p d
-    unfolding leaves written_of
-    fine-left x i = i ∙ rw (← e, g)
-
-  pub count-answer : r ≡ R.Count → Count ≡ written_of p (length d)
+module _ (p : Plan) (d : List ℕ) where
+  pub fine-answer : Ok tt ≡ record_of p → fine_answer p (length d) ≡ written_of p (length d)
   unfolding written_of
-  count-answer g = rw (← e, g)
+  fine-answer e = rw (← e)
 
-  pub count_left : r ≡ R.Count → d ≡ leaves p d
+  pub fine-left : Ok tt ≡ record_of p → left_by (fine_answer p (length d)) p d ≡ leaves p d
   unfolding leaves written_of
-  count_left g = rw (← e, g)
+  fine-left e = rw (← e)
 
-  pub sequence-answer : r ≡ R.Sequence → Sequence ≡ written_of p (length d)
+  pub fault-answer : (f : RecordFault) → Err f ≡ record_of p → Err (write_fault f) ≡ written_of p (length d)
   unfolding written_of
-  sequence-answer g = rw (← e, g)
+  fault-answer f e = rw (← e)
 
-  pub sequence-left : r ≡ R.Sequence → d ≡ leaves p d
+  pub fault-left : (f : RecordFault) → Err f ≡ record_of p → d ≡ leaves p d
   unfolding leaves written_of
-  sequence-left g = rw (← e, g)
+  fault-left f e = rw (← e)

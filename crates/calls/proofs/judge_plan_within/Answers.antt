@@ -1,40 +1,21 @@
 -- What is left of `calls::judge_plan_within`.
 -- Assumes nothing.
-use mathlib.Core.Path.{◌≡◌}
-use Rattle.verdict.proofs.Places.{verdict-small}
-use Rattle.calls.proofs.Exits.{read-fits, read-refused, can-network, can-check, read-checked}
+use mathlib.Core.Path.{refl}
+use Rattle.calls.specs.Refusals.{PlanRead}
+use Rattle.calls.proofs.Exits.{on-err, unread, can-network, can-check, plan-told}
 use Rattle.calls.proofs.judge_plan_within.Goals as goal
 
-pub judged_bits-bits-requires : goal.judged_bits-bits-requires
-judged_bits-bits-requires c = let e = c.read_outline-read.ensures in read-fits _ _ _ _ _ e.told e.left.0 e.left.1
+pub returns-in_err-outline-clause-told : goal.returns-in_err-outline-clause-told
+returns-in_err-outline-clause-told c = on-err (PlanRead c.args.most c.args.sheet.now) _ _ c.from_residual.ensures.1 (unread _ _ _ c.in_err-outline.ensures.told)
 
-pub returns-then-not-is_fine : goal.returns-then-not-is_fine
-returns-then-not-is_fine c =
-    let e = c.read_outline-read.ensures in
-    record {
-      told = read-refused _ _ _ _ _ e.told e.left.0 e.left.1 _ _ _ c.is_fine.ensures c.if-not-is_fine.true c.judged_bits-bits.ensures c.no_network-network.ensures;
-      left = e.left;
-    }
+pub network_of-requires : goal.network_of-requires
+network_of-requires c = let e = c.in_ok-outline.ensures in can-network _ _ _ _ _ e.told e.left.0 e.left.1
 
-pub network_of-network-requires : goal.network_of-network-requires
-network_of-network-requires c = let e = c.read_outline-read.ensures in can-network _ _ _ _ _ e.told e.left.0 e.left.1 _ c.is_fine.ensures c.if-not-is_fine.false
+pub invariant_of-chart : goal.invariant_of-chart
+invariant_of-chart c =
+    let e = c.in_ok-outline.ensures in
+    let h = can-check _ _ _ _ _ e.told e.left.0 e.left.1 _ c.network_of.ensures in
+    record { few_bookings = h.0; few_ways = h.1 }
 
-pub check-v-requires : goal.check-v-requires
-check-v-requires c =
-    let e = c.read_outline-read.ensures in
-    can-check _ _ _ _ _ e.told e.left.0 e.left.1 _ c.is_fine.ensures c.if-not-is_fine.false _ c.network_of-network.ensures
-
-pub check_bits-bits-requires : goal.check_bits-bits-requires
-check_bits-bits-requires c =
-    let e = c.read_outline-read.ensures in
-    let r = can-check _ _ _ _ _ e.told e.left.0 e.left.1 _ c.is_fine.ensures c.if-not-is_fine.false _ c.network_of-network.ensures in
-    rw c.check-v.ensures (verdict-small _ r.0 r.1)
-
-pub returns : goal.returns
-returns c =
-    let e = c.read_outline-read.ensures in
-    record {
-      told = read-checked _ _ _ _ _ e.told e.left.0 e.left.1 _ c.is_fine.ensures c.if-not-is_fine.false _ c.network_of-network.ensures _ _ _ c.check-v.ensures c.check_bits-bits.ensures
-          c.is_pass-passes.ensures;
-      left = e.left;
-    }
+pub returns-clause-told : goal.returns-clause-told
+returns-clause-told c = let e = c.in_ok-outline.ensures in plan-told _ _ _ _ _ e.told e.left.0 e.left.1 _ c.network_of.ensures _ _ refl c.check-verdict.ensures

@@ -1,27 +1,18 @@
 -- What is left of `decimal::begin`.
 -- Assumes nothing.
-use mathlib.Core.Path.{◌≡◌, ap, ◌∙◌}
-use mathlib.Core.Bool.{not}
-use Prim.Native.Nat.{◌-◌}
-use native.Mathlib.Omega.{arith}
-use borrow.Author.Tests.{eq-eqb, ne_eqb}
-use Rattle.bounded.proofs.Loops.{so-far-none, so_far_more, first-at, first-over}
-use Rattle.decimal.specs.Decimal.{begun}
+use Rattle.std.proofs.Common.{◌≡◌, ◌≢◌, ◌∙◌, arith, rules}
+use Rattle.std.proofs.lemmas.Iterator.{IsFirst-from_position, YieldsList-from_take, YieldsList-from_slice}
+use borrow.Author.Tests.{tests}
+use Rattle.decimal.proofs.Laws.{begins_at}
 use Rattle.decimal.proofs.begin.Goals as goal
-
-pub loop-i-init : goal.loop-i-init
-loop-i-init c = (omega arith, so-far-none _)
-
-pub returns-then-s-i-ne32 : goal.returns-then-s-i-ne32
-unfolding begun
-returns-then-s-i-ne32 c = let l = c.loop-i in first-at _ _ l.i l.invariant.1 (omega arith) (ap not (ne_eqb _ _ c.if-s-i-ne32.true))
-
-pub loop-i-preserved : goal.loop-i-preserved
-unfolding begun
-loop-i-preserved c = let l = c.loop-i in (omega arith, so_far_more _ l.i l.invariant.1 (ap not (eq-eqb _ _ c.if-s-i-ne32.false)))
 
 pub returns : goal.returns
 returns c =
-    let l = c.loop-i in
-    let e : l.i ≡ c.args.w - 1 = omega arith in
-    e ∙ first-over _ _ l.i l.invariant.1 (omega arith)
+    let s = c.args.s.now in
+    let p = IsFirst-from_position _ _ c.position.result (λ x. x ≢ 32) (λ x. x ≡ 32) c.position.ensures.ran
+    (YieldsList-from_take c.saturating_sub-last.result (YieldsList-from_slice s cc) cc) (λ x q k. search (rules, tests)) (λ x q k. search (rules, tests)) in
+    let b = begins_at s c.saturating_sub-last.result c.position.result p (omega (arith, c.saturating_sub-last.ensures)) in
+    record {
+      within = omega (arith, c.unwrap_or.ensures, b.0, c.saturating_sub-last.ensures);
+      place = rw (← c.saturating_sub-last.ensures) (c.unwrap_or.ensures ∙ b.1);
+    }

@@ -1,18 +1,17 @@
 -- What is left of `decimal::unread`.
 -- Assumes nothing.
-use borrow.Author.Rules.{rules}
-use borrow.Author.Count.{below_more, below_none}
+use Rattle.std.proofs.Common.{◌≡◌, ◌≢◌, rules, arith}
+use Rattle.std.proofs.lemmas.Iterator.{cases_from_all, YieldsList-from_slice}
+use borrow.Author.Tests.{tests}
 use Rattle.decimal.proofs.Laws.{no-blank, all-blank}
 use Rattle.decimal.proofs.unread.Goals as goal
 
-pub loop-i-init : goal.loop-i-init
-loop-i-init c = (search rules, below_none _)
+pub returns-then-all : goal.returns-then-all
+returns-then-all c =
+    let p = cases_from_all _ _ _ (λ x. x ≡ 32) (λ x. x ≢ 32) c.if-all.ensures.ran (YieldsList-from_slice c.args.s.now cc) (λ x q k. search (rules, tests)) (λ x q k. search (rules, tests)) in
+    all-blank c.args.s.now (λ k h. p k 0 (omega arith) h)
 
-pub returns-then-s-i-ne32 : goal.returns-then-s-i-ne32
-returns-then-s-i-ne32 c = no-blank _ _ _ c.loop-i-test.true c.if-s-i-ne32.true
-
-pub loop-i-preserved : goal.loop-i-preserved
-loop-i-preserved c = (search rules, below_more _ _ c.loop-i.invariant.1 c.if-s-i-ne32.false)
-
-pub returns : goal.returns
-returns c = all-blank c.args.s.now _ c.loop-i-test.false c.loop-i.invariant.1
+pub returns-else-all : goal.returns-else-all
+returns-else-all c =
+    let p = cases_from_all _ _ _ (λ x. x ≡ 32) (λ x. x ≢ 32) c.if-all.ensures.ran (YieldsList-from_slice c.args.s.now cc) (λ x q k. search (rules, tests)) (λ x q k. search (rules, tests)) in
+    no-blank _ c.args.s.now p.0 p.1 (p.2 0)

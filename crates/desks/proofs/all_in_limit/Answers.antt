@@ -1,23 +1,17 @@
 -- What is left of `desks::all_in_limit`.
 -- Assumes nothing.
-use native.Mathlib.Omega.{arith}
-use borrow.Author.Rules.{rules}
-use Rattle.bounded.proofs.Loops.{all-far-none}
-use Rattle.desks.specs.Desks.{in_limit}
-use Rattle.desks.proofs.Laws.{few-kept, above, within, all-kept}
+use Rattle.std.proofs.Common.{rules, tests, ◌∙◌, leb}
+use Rattle.std.specs.Int.Bits.{bit_and}
+use Rattle.std.proofs.lemmas.Iterator.{YieldsList-from_slice}
+use Rattle.std.proofs.lemmas.Iterator.Search.{all_from_yields_List}
+use Rattle.sets.specs.Sets.{size_of}
+use Rattle.desks.proofs.Laws.{few-kept, all-kept}
 use Rattle.desks.proofs.all_in_limit.Goals as goal
 
 pub returns-then-size-limit : goal.returns-then-size-limit
 returns-then-size-limit c = few-kept _ _ _ (rw c.size.ensures at c.if-size-limit.true)
 
-pub loop-d-init : goal.loop-d-init
-loop-d-init c = (omega arith, all-far-none (in_limit _ _ _))
-
-pub returns-then-size-limit-2 : goal.returns-then-size-limit-2
-returns-then-size-limit-2 c = above _ _ _ _ _ c.size-in-loop-d.ensures (omega arith) c.if-size-limit-2.true
-
-pub loop-d-preserved : goal.loop-d-preserved
-loop-d-preserved c = (search rules, within _ _ _ _ _ c.size-in-loop-d.ensures c.if-size-limit-2.false c.loop-d.invariant.1)
-
 pub returns : goal.returns
-returns c = search all-kept
+returns c =
+    all_from_yields_List (λ s. leb (size_of (bit_and s c.args.matters)) c.args.limit) _ _ _ c.all.ensures.ran (YieldsList-from_slice c.args.desks.now cc) (λ x b q k. search (rules, tests))
+    ∙ all-kept c.args.limit c.args.desks.now c.args.matters c.told-desks

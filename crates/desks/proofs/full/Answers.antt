@@ -1,27 +1,22 @@
 -- What is left of `desks::full`.
 -- Assumes nothing.
-use mathlib.Core.Path.{◌≡◌}
-use native.Mathlib.Omega.{arith}
-use borrow.Author.Rules.{rules}
-use mir.Val.{Fits}
-use mir.Syntax.{w64}
+use Rattle.std.proofs.Common.{◌≡◌, Fits, w64, arith, rules}
 use Rattle.desks.proofs.Laws.{far_none, far-more, far-all, far-few}
 use Rattle.desks.proofs.full.Goals as goal
 
 pub returns-then-size-limit : goal.returns-then-size-limit
 returns-then-size-limit c = far-few _ _ _ (rw c.size.ensures at c.if-size-limit.true)
 
-pub loop-d-init : goal.loop-d-init
-loop-d-init c = (omega arith, omega arith, far_none _ _ _)
+pub loop-desk-init : goal.loop-desk-init
+loop-desk-init c = (omega arith, far_none _ _ _)
 
-pub loop-d-preserved : goal.loop-d-preserved
-loop-d-preserved c =
-    let i = c.loop-d in
+pub loop-desk-preserved : goal.loop-desk-preserved
+loop-desk-preserved c =
     let f : Fits w64 c.with_desk-at_full.result = search rules in
-    (omega arith, f.fits, far-more _ _ _ i.at_full _ i.d i.invariant.2 c.with_desk-at_full.ensures)
+    (f.fits, far-more _ _ _ c.loop-desk.at_full _ c.loop-desk.desk-index c.loop-desk.invariant.1 c.with_desk-at_full.ensures)
 
 pub returns : goal.returns
 returns c =
-    let i = c.loop-d in
-    let e : i.d ≡ 8 = omega (arith, i.invariant.0) in
-    far-all _ _ _ i.at_full i.invariant.1 (rw e at i.invariant.2)
+    let i = c.loop-desk in
+    let e : i.desk-index ≡ 8 = omega arith in
+    far-all _ _ _ i.at_full i.invariant.0 (rw e at i.invariant.1)

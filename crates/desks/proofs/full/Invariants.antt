@@ -1,11 +1,8 @@
--- What the loop of `desks::full` keeps, and its measure.
+-- What the loop of `desks::full` keeps.
 -- Assumes nothing.
-use Prim.Native.Nat.{◌≤◌, ◌-◌, ◌<◌, ◌^◌}
+use Prim.Native.Nat.{◌<◌, ◌^◌}
 use Rattle.desks.proofs.Laws.{FullFar}
 use Rattle.desks.proofs.full.Given as goal
 
-abbrev pub invariant-loop-d : goal.invariant-loop-d
-invariant-loop-d l = (l.d ≤ 8) × (l.at_full < 2 ^ 64) × FullFar l.limit l.desks l.matters l.at_full l.d
-
-abbrev pub decreases-loop-d : goal.decreases-loop-d
-decreases-loop-d l = 8 - l.d
+abbrev pub invariant-loop-desk : goal.invariant-loop-desk
+invariant-loop-desk l = (l.at_full < 2 ^ 64) × FullFar l.limit l.desks l.matters l.at_full l.desk-index

@@ -1,27 +1,28 @@
 -- What is left of `drill_run::play`.
 -- Assumes nothing.
-use borrow.Author.Rules.{rules}
+use Rattle.std.proofs.Common.{arith}
 use Rattle.drill_run.specs.Drilled.{begun}
-use Rattle.drill_run.proofs.DrillLaws.{order-taken, reply-heard, played, silence}
+use Rattle.drill_run.proofs.DrillLaws.{order-taken, reply-heard, silence}
 use Rattle.drill_run.proofs.play.Goals as goal
+use Rattle.drill_run.proofs.play.Goals.{in-TakeOrder, in-ReadReply+in-Some}
 
-pub loop-turns-init : goal.loop-turns-init
-loop-turns-init c = (search rules, search rules, begun)
-
-pub returns-then-not-print_answer : goal.returns-then-not-print_answer
-returns-then-not-print_answer c = search played
-
-pub loop-turns-preserved-in-TakeOrder : goal.loop-turns-preserved-in-TakeOrder
-loop-turns-preserved-in-TakeOrder c = (search rules, search rules, search order-taken)
+pub loop-init : goal.loop-init
+loop-init c = record { counted = omega arith; so_far = begun }
 
 pub returns-in_default : goal.returns-in_default
-returns-in_default c = search silence
+returns-in_default c = silence _ _ _ _ _ _ c.loop.invariant.so_far _ c.hear.ensures c.in_default.is
 
-pub loop-turns-preserved : goal.loop-turns-preserved
-loop-turns-preserved c = (search rules, search rules, search reply-heard)
-
-pub returns-in-Stop : goal.returns-in-Stop
-returns-in-Stop c = search played
-
-pub returns : goal.returns
-returns c = search played
+pub loop-preserved : goal.loop-preserved
+loop-preserved c = elim c.match-after_answer.branch [
+  | in-TakeOrder w ↦
+      (let asked = w.campaign_next_order-bits.ensures in
+      record {
+        counted = omega arith;
+        so_far = rw (w.bits-is, w.state-is) (order-taken _ _ _ _ _ _ c.loop.invariant.so_far _ _ c.after_answer.ensures w.in-TakeOrder.is asked.answer asked.left);
+      })
+  | in-ReadReply+in-Some w ↦
+      record {
+        counted = omega arith;
+        so_far = rw (w.bits-is, w.state-is) (reply-heard _ _ _ _ _ _ c.loop.invariant.so_far _ w.hear.ensures _ _ c.after_answer.ensures w.in-ReadReply.is w.in-Some.is);
+      }
+]

@@ -1,6 +1,6 @@
--- What the loop of `line_writer::write_bookings` keeps, and its measure.
+-- What the loop of `line_writer::write_bookings` keeps.
 -- Assumes nothing.
-use Prim.Native.Nat.{◌+◌, ◌*◌, ◌-◌, ◌≤◌}
+use Prim.Native.Nat.{◌*◌, ◌-◌}
 use mathlib.Core.Path.{◌≡◌}
 use lib.ListN.{length}
 use lib.Seq.{sets}
@@ -9,7 +9,4 @@ use Rattle.lines.specs.Bookings.{bookings_text}
 use Rattle.line_writer.proofs.write_bookings.Given as goal
 
 abbrev pub invariant-loop-i : goal.invariant-loop-i
-invariant-loop-i l = (l.i ≤ l.n) × (length l.buf ≡ length l.initial.buf) × (sets l.buf (l.at + booking_bytes * l.i) (bookings_text (l.n - l.i) l.i l.kind l.desk) ≡ sets l.initial.buf l.at (bookings_text l.n 0 l.kind l.desk))
-
-abbrev pub decreases-loop-i : goal.decreases-loop-i
-decreases-loop-i l = l.n - l.i
+invariant-loop-i l = (length l.text ≡ length l.initial.text) × (sets l.text (booking_bytes * l.i) (bookings_text (l.n - l.i) l.i l.kind l.desk) ≡ sets l.initial.text 0 (bookings_text l.n 0 l.kind l.desk))

@@ -1,6 +1,6 @@
--- What the loop of `line_writer::write_links` keeps, and its measure.
+-- What the loop of `line_writer::write_links` keeps.
 -- Assumes nothing.
-use Prim.Native.Nat.{◌+◌, ◌*◌, ◌-◌, ◌≤◌}
+use Prim.Native.Nat.{◌*◌, ◌-◌}
 use mathlib.Core.Path.{◌≡◌}
 use lib.ListN.{length}
 use lib.Seq.{sets}
@@ -9,7 +9,4 @@ use Rattle.lines.specs.Links.{links_text}
 use Rattle.line_writer.proofs.write_links.Given as goal
 
 abbrev pub invariant-loop-i : goal.invariant-loop-i
-invariant-loop-i l = (l.i ≤ l.m) × (length l.buf ≡ length l.initial.buf) × (sets l.buf (l.at + link_bytes * l.i) (links_text (l.m - l.i) l.i l.from l.to) ≡ sets l.initial.buf l.at (links_text l.m 0 l.from l.to))
-
-abbrev pub decreases-loop-i : goal.decreases-loop-i
-decreases-loop-i l = l.m - l.i
+invariant-loop-i l = (length l.text ≡ length l.initial.text) × (sets l.text (link_bytes * l.i) (links_text (l.m - l.i) l.i l.from l.to) ≡ sets l.initial.text 0 (links_text l.m 0 l.from l.to))

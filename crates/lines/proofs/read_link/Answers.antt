@@ -1,35 +1,29 @@
 -- What is left of `lines::read_link`.
 -- Assumes nothing.
-use Prim.Native.Nat.{◌≤◌}
+use mathlib.Core.Path.{sym}
 use native.Mathlib.Omega.{arith}
+use borrow.Author.Rules.{rules}
+use Rattle.plan.proofs.LimitLaws.{sequenced}
 use Rattle.lines.proofs.LinkLaws.{no-frame, no-first, no_second, out, pair}
-use Rattle.plan.proofs.LimitLaws.{sequenced-by}
-use mathlib.Core.Path.{ap}
-use mathlib.Core.Bool.{not}
-use Rattle.lines.proofs.read_link.Goals.{Else-not-in_sequence}
 use Rattle.lines.proofs.read_link.Goals as goal
 
--- the bookings of a link in sequence fit in a byte
-ends : (c : Else-not-in_sequence) → (c.in-Number.u ≤ 64) × (c.in-Number-field_at.v ≤ 64)
-ends c = let r = sequenced-by _ _ _ _ _ _ c.in_sequence.ensures (ap not c.if-not-in_sequence.false) in (omega (arith, r.start), omega (arith, r.end))
-
 pub returns-then-not-is_framed : goal.returns-then-not-is_framed
-returns-then-not-is_framed c = search no-frame
+returns-then-not-is_framed c = search (rules, no-frame)
 
-pub returns-in_default : goal.returns-in_default
-returns-in_default c = no-first _ _ _ _ _ c.field_at.ensures c.in_default.not-Number
+pub returns-in_err-from : goal.returns-in_err-from
+returns-in_err-from c = search (rules, no-first)
 
-pub returns-in_default-field_at : goal.returns-in_default-field_at
-returns-in_default-field_at c = no_second _ _ _ _ _ c.field_at-2.ensures c.in_default-field_at.not-Number
+pub returns-in_err-to : goal.returns-in_err-to
+returns-in_err-to c = search (rules, no_second)
 
 pub returns-then-not-in_sequence : goal.returns-then-not-in_sequence
-returns-then-not-in_sequence c = search out
+returns-then-not-in_sequence c = search (rules, out)
 
 pub overflow_cast-result : goal.overflow_cast-result
-overflow_cast-result c = omega (arith, (ends c).0)
+overflow_cast-result c = omega (arith, (sequenced _ _ _ _ _ (sym c.if-not-in_sequence.ensures)).start.1)
 
 pub overflow_cast-result-2 : goal.overflow_cast-result-2
-overflow_cast-result-2 c = omega (arith, (ends c).1)
+overflow_cast-result-2 c = omega (arith, (sequenced _ _ _ _ _ (sym c.if-not-in_sequence.ensures)).end.1)
 
 pub returns : goal.returns
-returns c = search pair
+returns c = search (rules, pair)

@@ -1,30 +1,29 @@
 -- What is left of `network::kinds_of`.
 -- Assumes nothing.
-use mathlib.Core.Path.{◌≡◌, refl, sym, ap₂, ◌∙◌}
+use mathlib.Core.Path.{◌≡◌, sym}
+use mathlib.Core.Bool.{Bool, cond}
+use mathlib.Core.List.{List}
+use Prim.Native.Nat.{ℕ, ◌+◌, ◌<◌}
 use native.Mathlib.Omega.{arith}
 use lib.Bits.{bit_or}
-use Rattle.sets.proofs.Gather.{gather-zero, gather-skip}
-use Rattle.sets.proofs.Operations.{gather-alone}
-use Rattle.network.specs.FromPlan.{of_kind}
-use Rattle.network.proofs.kinds_of.Goals.{then-is_either, else-is_either, then-is_either-2, else-is_either-2}
+use lib.ListN.{get_or, take}
+use Rattle.std.proofs.lemmas.List.{get_or-take}
+use Rattle.sets.specs.Sets.{alone, gather}
+use Rattle.sets.proofs.Gather.{gather-zero}
+use Rattle.sets.proofs.Operations.{gather-next}
+use Rattle.network.specs.FromPlan.{is_firm, is_exposed, of_kind}
 use Rattle.network.proofs.kinds_of.Goals as goal
 
 pub loop-b-init : goal.loop-b-init
-loop-b-init c = (omega arith, sym (gather-zero _), sym (gather-zero _))
+loop-b-init c = (sym (gather-zero _), sym (gather-zero _))
+
+next : (f : ℕ → Bool) (ks : List ℕ) (n i b s t : ℕ) → i < n → b ≡ alone i → s ≡ gather (of_kind f ks) i → t ≡ cond (f (get_or (take n ks) i 0)) (bit_or s b) s
+    → t ≡ gather (of_kind f ks) (i + 1)
+unfolding of_kind
+next f ks n i b s t h eb es et = gather-next (of_kind f ks) i b s t eb es (rw (get_or-take n ks i 0 h) at et)
 
 pub loop-b-preserved : goal.loop-b-preserved
-unfolding of_kind
 loop-b-preserved c = (
-  omega arith,
-  elim c.if-is_either.branch [
-    | then-is_either w ↦ w.firm-is ∙ ap₂ bit_or c.loop-b.invariant.1 refl ∙ gather-alone _ _ _ c.bit-this.ensures (sym c.is_either.ensures ∙ w.if-is_either.true)
-    | else-is_either w ↦ w.firm-is ∙ c.loop-b.invariant.1 ∙ gather-skip _ _ (sym c.is_either.ensures ∙ w.if-is_either.false)
-  ],
-  elim c.if-is_either-2.branch [
-    | then-is_either-2 w ↦ w.exposed-is ∙ ap₂ bit_or c.loop-b.invariant.2 refl ∙ gather-alone _ _ _ c.bit-this.ensures (sym c.is_either-in-loop-b.ensures ∙ w.if-is_either-2.true)
-    | else-is_either-2 w ↦ w.exposed-is ∙ c.loop-b.invariant.2 ∙ gather-skip _ _ (sym c.is_either-in-loop-b.ensures ∙ w.if-is_either-2.false)
-  ],
+  next is_firm _ _ _ _ _ _ (omega arith) c.bit.ensures c.loop-b.invariant.0 c.with-kinds.ensures.firm,
+  next is_exposed _ _ _ _ _ _ (omega arith) c.bit.ensures c.loop-b.invariant.1 c.with-kinds.ensures.exposed,
 )
-
-pub returns : goal.returns
-returns c = let e : c.loop-b.b ≡ c.args.n = omega arith in (rw e at c.loop-b.invariant.1, rw e at c.loop-b.invariant.2)

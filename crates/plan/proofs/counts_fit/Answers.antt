@@ -1,20 +1,16 @@
 -- What is left of `plan::counts_fit`.
 -- Assumes nothing.
-use Rattle.bounded.proofs.Loops.{all-far-none, all-over, all-out, all-on}
-use borrow.Author.Rules.{rules}
+use Rattle.std.proofs.Common.{rules, tests, refl, ◌∙◌, take, arith}
+use Rattle.std.proofs.lemmas.Iterator.{YieldsList-from_slice}
+use Rattle.std.proofs.lemmas.Iterator.Search.{all_from_yields_List}
+use Rattle.sets.specs.Sets.{size_of}
+use Rattle.plan.specs.Limits.{within}
 use Rattle.plan.specs.Record.{count_at}
+use Rattle.plan.proofs.Chains.{all-of}
 use Rattle.plan.proofs.counts_fit.Goals as goal
 
-pub loop-k-init : goal.loop-k-init
-loop-k-init c = (search rules, all-far-none (count_at _ _))
-
-pub returns-then-not-has_count : goal.returns-then-not-has_count
-unfolding count_at
-returns-then-not-has_count c = search all-out
-
-pub loop-k-preserved : goal.loop-k-preserved
-unfolding count_at
-loop-k-preserved c = (search rules, search all-on)
-
 pub returns : goal.returns
-returns c = search all-over
+unfolding count_at
+returns c =
+    all_from_yields_List (λ x. within 1 (size_of x) c.args.n) _ _ _ c.all.ensures.ran (YieldsList-from_slice (take c.args.a c.args.way.now) cc) (λ x b q k. search (rules, tests))
+    ∙ all-of _ (count_at c.args.n c.args.way.now) _ (λ i. refl) c.args.a (omega arith)

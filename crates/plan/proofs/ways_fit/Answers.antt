@@ -1,20 +1,14 @@
 -- What is left of `plan::ways_fit`.
 -- Assumes nothing.
-use Rattle.bounded.proofs.Loops.{all-far-none, all-over, all-out, all-on}
-use borrow.Author.Rules.{rules}
+use Rattle.std.proofs.Common.{rules, tests, refl, ◌∙◌, take, ltb, ◌^◌, arith}
+use Rattle.std.proofs.lemmas.Iterator.{YieldsList-from_slice}
+use Rattle.std.proofs.lemmas.Iterator.Search.{all_from_yields_List}
 use Rattle.plan.specs.Record.{within_at}
+use Rattle.plan.proofs.Chains.{all-of}
 use Rattle.plan.proofs.ways_fit.Goals as goal
 
-pub loop-k-init : goal.loop-k-init
-loop-k-init c = (search rules, all-far-none (within_at _ _))
-
-pub returns-then-not-is_below : goal.returns-then-not-is_below
-unfolding within_at
-returns-then-not-is_below c = search all-out
-
-pub loop-k-preserved : goal.loop-k-preserved
-unfolding within_at
-loop-k-preserved c = (search rules, search all-on)
-
 pub returns : goal.returns
-returns c = search all-over
+unfolding within_at
+returns c =
+    all_from_yields_List (λ x. ltb x (2 ^ c.args.n)) _ _ _ c.all.ensures.ran (YieldsList-from_slice (take c.args.a c.args.way.now) cc) (λ x b q k. search (rules, tests))
+    ∙ all-of _ (within_at c.args.n c.args.way.now) _ (λ i. refl) c.args.a (omega arith)

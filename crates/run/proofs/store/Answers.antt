@@ -1,29 +1,22 @@
 -- What is left of `run::store`.
 -- Assumes nothing.
-use mathlib.Core.Path.{refl, ◌∙◌}
+use mathlib.Core.Path.{◌≡◌, ap, ◌∙◌}
+use mathlib.Core.List.{List, [], ◌∷◌, ◌++◌}
+use Prim.Native.Nat.{ℕ, suc, ◌-◌}
 use native.Mathlib.Omega.{arith}
-use borrow.Author.Rules.{rules}
-use borrow.Author.Count.{below_none}
-use lib.ListN.{length-set}
-use lib.Seq.{get_or-set_same, get_or-set_other}
+use lib.ListN.{length, set}
+use borrow.Rule.Slice.PartMut.{put_mid}
+use Rattle.std.proofs.Common.{append-nil}
+use Rattle.std.proofs.lemmas.List.{drop_all}
 use Rattle.run.specs.Bytes.{bytes_of}
-use Rattle.bounded.proofs.Lists.{tail-put, cons-is}
 use Rattle.run.proofs.store.Goals as goal
 
-pub loop-i-init : goal.loop-i-init
-loop-i-init c = (omega arith, simp length-set (omega arith), refl, below_none _)
-
-pub loop-i-preserved : goal.loop-i-preserved
-loop-i-preserved c = let i = c.loop-i in
-    let a = c in (
-      omega arith,
-      simp length-set i.invariant.1,
-      get_or-set_other i.s _ 0 _ 0 (λ q. omega arith) ∙ i.invariant.2,
-      tail-put i.s a.args.r.code i.i (omega arith) i.invariant.3,
-    )
+-- the way, then the codes to the end
+stored : (s code new : List ℕ) (w : ℕ) → length s ≡ 65 → length code ≡ 64 → new ≡ code → put_mid 1 (length (set s 0 w) - 1) (set s 0 w) new ≡ w ∷ code
+stored [] code new w l k e = absurd (omega arith)
+stored (x ∷ xs) code new w l k e =
+    rw e (ap (λ (t : List ℕ). w ∷ (code ++ t)) (drop_all (suc (length xs) - 1) xs (omega arith)) ∙ rw append-nil)
 
 pub returns : goal.returns
 unfolding bytes_of
-returns c = let i = c.loop-i in let a = c in
-    cons-is 64 a.args.r.way a.args.r.code i.s (search rules) i.invariant.1
-    (i.invariant.2 ∙ get_or-set_same a.args.s.now 0 a.args.r.way 0 (omega arith)) (λ k l. i.invariant.3 k (omega arith))
+returns c = stored c.args.s.now c.args.r.now.code _ c.args.r.now.way c.requires (omega arith) c.copy_from_slice.ensures.after

@@ -6,9 +6,6 @@ use Rattle.sets.specs.Sets.{subset_of}
 use Rattle.run.specs.Sound.{all_founded}
 use Rattle.soundness.proofs.all_founded.Goals as goal
 
-pub preceding-requires : goal.preceding-requires
-preceding-requires c = c.requires
-
 pub returns : goal.returns
 unfolding all_founded
 returns c = c.subset.ensures ∙ ap (λ (x : ℕ). subset_of x c.args.s.held) c.preceding.ensures

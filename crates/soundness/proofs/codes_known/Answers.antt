@@ -1,23 +1,18 @@
 -- What is left of `soundness::codes_known`.
 -- Assumes nothing.
-use mathlib.Core.Path.{refl}
-use native.Mathlib.Omega.{arith}
-use borrow.Author.Tests.{le-leb, lt-leb}
-use Rattle.bounded.proofs.Loops.{all-far-none, all-far-more, all-call, all-over}
+use Rattle.std.proofs.Common.{rules, tests, refl, ◌∙◌, take}
+use lib.Dec.{leb}
+use Rattle.std.proofs.lemmas.Iterator.{YieldsList-from_slice}
+use Rattle.std.proofs.lemmas.Iterator.Search.{all_from_yields_List}
+use Rattle.standing.specs.Standing.{returning}
 use Rattle.run.specs.State.{code}
 use Rattle.run.specs.Sound.{code_known}
+use Rattle.soundness.proofs.Listed.{all-front}
 use Rattle.soundness.proofs.codes_known.Goals as goal
 
-pub loop-b-init : goal.loop-b-init
-loop-b-init c = (omega arith, all-far-none _)
-
-pub returns-then-r-b-gt-RETURNING : goal.returns-then-r-b-gt-RETURNING
-unfolding code_known code
-returns-then-r-b-gt-RETURNING c = all-call _ _ c.loop-b.b (omega arith) _ refl (lt-leb _ _ c.if-r-b-gt-RETURNING.true)
-
-pub loop-b-preserved : goal.loop-b-preserved
-unfolding code_known code
-loop-b-preserved c = let i = c.loop-b in (omega arith, all-far-more _ i.b i.invariant.1 (le-leb _ _ c.if-r-b-gt-RETURNING.false))
-
 pub returns : goal.returns
-returns c = all-over _ _ c.loop-b.b c.loop-b.invariant.1 (omega arith)
+unfolding code_known code
+returns c =
+    let r = c.args.r.now in
+    all_from_yields_List (λ x. leb x returning) _ _ _ c.all.ensures.ran (YieldsList-from_slice (take c.args.n r.code) cc) (λ x b q k. search (rules, tests))
+    ∙ all-front (λ x. leb x returning) (code_known r) r.code (λ j. refl) c.args.n (search rules)

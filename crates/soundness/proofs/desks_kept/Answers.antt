@@ -8,4 +8,4 @@ use Rattle.soundness.proofs.desks_kept.Goals as goal
 
 pub returns : goal.returns
 unfolding desks_kept
-returns c = let g = c.args.g in c.all_in_limit.ensures ∙ ap (λ (m : ℕ). all_in_limit g.limit g.desk m) c.matters.ensures
+returns c = let g = c.args.g.now in c.all_in_limit.ensures ∙ ap (λ (m : ℕ). all_in_limit g.limit g.desk m) c.matters.ensures

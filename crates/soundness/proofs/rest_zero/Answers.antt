@@ -1,19 +1,18 @@
 -- What is left of `soundness::rest_zero`.
 -- Assumes nothing.
-use mathlib.Core.Path.{◌≡◌, refl}
-use native.Mathlib.Omega.{arith}
-use Rattle.standing.specs.Standing.{code_is}
+use Rattle.std.proofs.Common.{rules, tests, ◌∙◌, take, drop, ◌-◌}
+use lib.Dec.{eqb}
+use Rattle.std.proofs.lemmas.Iterator.{YieldsList-from_slice}
+use Rattle.std.proofs.lemmas.Iterator.Search.{all_from_yields_List}
+use Rattle.standing.specs.Standing.{free, code_is}
 use Rattle.run.specs.Sound.{zero_past, rest_zero}
-use Rattle.soundness.proofs.Tests.{past_in, none_seen, seen_more}
+use Rattle.soundness.proofs.Listed.{all-back}
 use Rattle.soundness.proofs.rest_zero.Goals as goal
 
-pub loop-b-init : goal.loop-b-init
-loop-b-init c = (omega arith, omega arith, none_seen _ _)
-
-pub loop-b-preserved : goal.loop-b-preserved
-unfolding code_is
-loop-b-preserved c = let i = c.loop-b in (omega arith, omega arith, seen_more _ _ i.seen _ i.b i.invariant.0 refl i.invariant.2)
-
 pub returns : goal.returns
-unfolding rest_zero zero_past past_in
-returns c = let i = c.loop-b in let e : i.b ≡ 64 = omega arith in rw e at i.invariant.2
+unfolding rest_zero zero_past code_is
+returns c =
+    let r = c.args.r.now in
+    let n = c.args.chart.now.network.n in
+    all_from_yields_List (λ x. eqb x free) _ _ _ c.all.ensures.ran (YieldsList-from_slice (take (64 - n) (drop n r.code)) cc) (λ x b q k. search (rules, tests))
+    ∙ all-back (λ x. eqb x free) r.code n 64 (search rules) c.args.chart.now.few_bookings

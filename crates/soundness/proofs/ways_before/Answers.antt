@@ -8,5 +8,5 @@ pub returns-then-w-eq0 : goal.returns-then-w-eq0
 unfolding ways_before
 returns-then-w-eq0 c = rw c.if-w-eq0.true
 
-pub returns : goal.returns
-returns c = way-before c.args.g c.args.w c.if-w-eq0.false
+pub returns-else-w-eq0 : goal.returns-else-w-eq0
+returns-else-w-eq0 c = way-before c.args.g.now c.args.w c.if-w-eq0.false

@@ -1,28 +1,22 @@
 -- What is left of `ways::ways_size`.
 -- Assumes nothing.
-use native.Mathlib.Omega.{arith}
-use Rattle.ways.proofs.TextLaws.{size-next, none_yet, length-all}
-use borrow.Author.Rules.{rules}
-use Rattle.sets.specs.Sets.{size_of}
-use Prim.Native.Nat.{ℕ, ◌≤◌}
-use mathlib.Core.Path.{◌≡◌}
+use Rattle.std.proofs.Common.{◌≤◌, arith}
 use Rattle.sets.proofs.Gather.{size_small}
+use Rattle.ways.proofs.TextLaws.{size-next, none_yet, ways-most}
+use Rattle.ways.proofs.ways_size.Goals.{After-size}
 use Rattle.ways.proofs.ways_size.Goals as goal
 
-small : (r s : ℕ) → r ≡ size_of s → r ≤ 64
-small r s e = rw e (size_small s)
+small : (c : After-size) → c.size.result ≤ 64
+small c = rw c.size.ensures (size_small _)
 
-pub loop-i-init : goal.loop-i-init
-loop-i-init c = (search rules, search rules, none_yet _)
+pub loop-way-init : goal.loop-way-init
+loop-way-init c = none_yet _
 
 pub way_bytes-total-requires : goal.way_bytes-total-requires
-way_bytes-total-requires c = small _ _ c.size.ensures
+way_bytes-total-requires c = small c
 
 pub overflow_add-total : goal.overflow_add-total
-overflow_add-total c = omega (arith, small _ _ c.size.ensures)
+overflow_add-total c = omega (arith, ways-most _ _ _ c.loop-way.invariant, small (goal.at.overflow_add-total c).After-size)
 
-pub loop-i-preserved : goal.loop-i-preserved
-loop-i-preserved c = (search rules, omega (arith, small _ _ c.size.ensures), search size-next)
-
-pub returns : goal.returns
-returns c = search length-all
+pub loop-way-preserved : goal.loop-way-preserved
+loop-way-preserved c = size-next _ _ _ _ _ c.loop-way.invariant c.size.ensures c.way_bytes-total.ensures

@@ -1,14 +1,10 @@
--- What the loop of `ways::write_ways` keeps, and its measure.
+-- What the loop of `ways::write_ways` keeps.
 -- Assumes nothing.
-use lib.Seq.{sets}
-use lib.ListN.{length}
-use Prim.Native.Nat.{◌+◌, ◌-◌, ◌≤◌}
-use mathlib.Core.Path.{◌≡◌}
+use Rattle.std.proofs.Common.{◌≡◌, ◌+◌, ◌-◌, length}
+use Rattle.std.proofs.lemmas.List.Edits.{sets}
 use Rattle.ways.specs.WayText.{ways_text, ways_length}
 use Rattle.ways.proofs.write_ways.Given as goal
 
-abbrev pub invariant-loop-i : goal.invariant-loop-i
-invariant-loop-i l = (l.i ≤ l.a) × (length l.buf ≡ length l.initial.buf) × (l.next ≡ l.at + ways_length l.i l.way) × (sets l.buf l.next (ways_text (l.a - l.i) l.i l.way) ≡ sets l.initial.buf l.at (ways_text l.a 0 l.way))
-
-abbrev pub decreases-loop-i : goal.decreases-loop-i
-decreases-loop-i l = l.a - l.i
+abbrev pub invariant-loop-way : goal.invariant-loop-way
+invariant-loop-way l = (l.next ≡ l.at + ways_length l.way-index l.ways)
+    × (sets l.buf l.next (ways_text (length l.ways - l.way-index) l.way-index l.ways) ≡ sets l.initial.buf l.at (ways_text (length l.ways) 0 l.ways))

@@ -1,0 +1,2 @@
+-- The definitions of crate `soundness`.
+pub mod Parts
