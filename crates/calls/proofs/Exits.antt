@@ -12,7 +12,7 @@ use borrow.Author.Tests.{eq-eqb, ne_eqb}
 use Rattle.std.specs.Prelude.{Result, Ok, Err, IsErrAnd, Some, None}
 use Rattle.bounded.proofs.Bools.{which, clash, and_l, and_r, ◌&◌, and-no-l, and-no-r}
 use Rattle.plan.specs.Limits.{ours}
-use Rattle.plan.specs.Judging.{Judged, is_fine}
+use Rattle.plan.specs.Judging.{Judged, is_fine, judged_place}
 use Rattle.plan.specs.Outline.{plan_of}
 use Rattle.plan.specs.declared.Fault.{Fault}
 use Rattle.plan.specs.declared.Limits.{Limits}
@@ -45,10 +45,11 @@ use Rattle.guarantee.proofs.Numbers.{small-9, taken-small}
 use Rattle.guarantee.specs.Calls.{call_bits, call_bytes}
 use Rattle.calls.specs.declared.Refusal.{Refusal}
 use Rattle.calls.specs.declared.Refusal.TheVariants.{Sheet as NoSheet, Plan as NoPlan, Reply, State}
+use Rattle.calls.specs.declared.Checked.{Checked}
 use Rattle.calls.specs.declared.Planned.{Planned}
 use Rattle.calls.specs.declared.Campaign.{Campaign}
 use Rattle.calls.specs.Calls.{network_within, network_in, passes, passes_within, sheet_passes, judged_bits, check_within, check_call, start_call, start_leaves, asked_call, asked_leaves, in_order, refused_with}
-use Rattle.calls.specs.Refusals.{refusal_bits, refusal_place, Answers, Judges, Refused, Passed, PlanTold, Stood, TakenUp}
+use Rattle.calls.specs.Refusals.{refusal_bits, refusal_place, Answers, Refused, Passed, SheetTold, SheetUnread, SheetRead, PlanTold, Stood, TakenUp}
 
 -- what a `?` gives on is the refusal that it found
 pub on-err : {A E : Type 0} (P : Result A E → Type 0) (r : Result A E) (x : E) → IsErrAnd r (λ e. e ≡ x) → P (Err x) → P r
@@ -77,12 +78,12 @@ given-fine (Err g) p q e = absurd (cc)
 
 module _ (most : Limits) (s : List ℕ) where
   -- a line of it is refused
-  pub unread : (f : Fault) → Err f ≡ outlined_of (sheet_within most s) → (sheet_within most s).judged ≡ Err f
-  unread f e = told-fault (sheet_within most s).judged _ f e
+  pub unread : (f : Fault) → Err f ≡ outlined_of (sheet_within most s) → SheetUnread most s f
+  unread f e = let j = told-fault (sheet_within most s).judged _ f e in record { judged = j; fits = rw j at (sheet-small most s) }
 
-  pub unread-refused : (f : Fault) → (sheet_within most s).judged ≡ Err f → Refused (is_fine (sheet_within most s).judged) (judged_bits (sheet_within most s).judged) (NoSheet f)
+  pub unread-refused : (f : Fault) → SheetUnread most s f → Refused (is_fine (sheet_within most s).judged) (judged_bits (sheet_within most s).judged) (NoSheet f)
   unfolding refusal_bits refusal_place
-  unread-refused f j = record { fails = rw j refl; bits = rw j refl; fits = rw j at (sheet-small most s) }
+  unread-refused f u = record { fails = rw u.judged refl; bits = rw u.judged refl; fits = u.fits }
 
   -- it reads, and its links stand beside its plan
   module _ (o : Outline) (us vs : List ℕ) (e : Ok o ≡ outlined_of (sheet_within most s)) (eu : us ≡ (links_read most s).from) (ev : vs ≡ (links_read most s).to) where
@@ -104,12 +105,17 @@ module _ (most : Limits) (s : List ℕ) where
       pub can-check : (g.n ≤ 64) × (g.a ≤ 16)
       can-check = rw network-read (fine-bounds most s fine)
 
+      -- what the check says of it
+      pub told-of : (v : Verdict) → v ≡ check g → SheetTold most s (record { chart = record { network = g; few_bookings = can-check.0; few_ways = can-check.1 }; verdict = v })
+      told-of v q = record { reads = fine; network = network-read; verdict = q ∙ ap check network-read; fits = rw q (verdict-small g can-check.0 can-check.1) }
+
       pub plan-told : (c : Chart) (v : Verdict) → c.network ≡ g → v ≡ check c.network → PlanTold most s (record { outline = o; chart = c; verdict = v })
       plan-told c v ec q = record {
         reads = fine;
         outline = (told-fine (sheet_within most s).judged _ o e).1;
         network = ec ∙ network-read;
         verdict = q ∙ ap check (ec ∙ network-read);
+        fits = rw q (verdict-small c.network c.few_bookings c.few_ways);
       }
 
 -- ---- a sheet that is judged
@@ -148,19 +154,31 @@ module _ (most : Limits) (s : List ℕ) where
   unfolding check_within
   judged-unread r f = record { fails = and-no-l (is_fine (sheet_within most s).judged) _ f.fails; bits = f.bits ∙ rw f.fails refl; fits = f.fits }
 
-  module _ (p : Planned) (t : PlanTold most s p) where
-    few : ((network_within most s).n ≤ 64) × ((network_within most s).a ≤ 16)
-    few = fine-bounds most s t.reads
+  -- but for its outline
+  pub sheet-told : (p : Planned) → PlanTold most s p → SheetTold most s (record { chart = p.chart; verdict = p.verdict })
+  sheet-told p t = record { reads = t.reads; network = t.network; verdict = t.verdict; fits = t.fits }
 
+  -- the 32 bits of what was judged
+  abbrev pub judged-answer : Result Checked Fault → ℕ
+  judged-answer (Ok p) = check_bits p.verdict
+  judged-answer (Err f) = judged_bits (Err f)
+
+  -- are the answer of check
+  pub bits_is : (t : Result Checked Fault) → SheetRead most s t → judged-answer t ≡ check_within most s
+  unfolding check_within
+  bits_is (Ok p) t = rw (t.reads, t.verdict) refl
+  bits_is (Err f) u = rw u.judged refl
+
+  module _ (p : Checked) (t : SheetTold most s p) where
     -- the fault of a plan that is read, as an answer
     pub fault-refused : (f : PlanFault) → p.verdict ≡ Err f → Refused (passes_within most s) (check_within most s) (NoPlan f)
-    unfolding check_within refusal_bits refusal_place
+    unfolding refusal_bits refusal_place
     fault-refused f e =
         let q : check (network_within most s) ≡ Err f = sym t.verdict ∙ e in
         record {
           fails = and-no-r (is_fine (sheet_within most s).judged) _ (ap passes q ∙ fault-fails f);
-          bits = rw (t.reads, q) refl;
-          fits = rw q at (verdict-small (network_within most s) few.0 few.1);
+          bits = rw e at (bits_is (Ok p) t);
+          fits = rw e at t.fits;
         }
 
     pub fine-passed : (u : Unit {0}) → p.verdict ≡ Ok u → Passed (passes_within most s) (network_within most s) p.chart
@@ -170,16 +188,6 @@ module _ (most : Limits) (s : List ℕ) where
   pub accepts : passes_within most s ≡ true → check_within most s ≡ pack 6 0 0
   unfolding check_within check_bits passes
   accepts e = rw (and_l (is_fine (sheet_within most s).judged) _ e, and_r (is_fine (sheet_within most s).judged) _ e) refl
-
-  -- the 32 bits of what was judged
-  abbrev pub judged-answer : Result Chart Refusal → ℕ
-  judged-answer (Ok c) = pack 6 0 0
-  judged-answer (Err r) = refusal_bits r
-
-  -- are the answer of check
-  pub bits_is : (t : Result Chart Refusal) → Judges (passes_within most s) (network_within most s) (check_within most s) t → judged-answer t ≡ check_within most s
-  bits_is (Ok c) j = sym (accepts j.holds)
-  bits_is (Err r) j = j.bits
 
 -- ---- our sheet
 

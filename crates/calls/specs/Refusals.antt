@@ -16,6 +16,7 @@ use Rattle.guarantee.specs.Answers.{pack, check_bits, place9, unsound}
 use Rattle.calls.specs.Calls.{network_within, network_in, judged_bits, in_order, refused_with}
 use Rattle.calls.specs.declared.Refusal.{Refusal}
 use Rattle.calls.specs.declared.Refusal.TheVariants.{Sheet, Plan, Reply, Room, State}
+use Rattle.calls.specs.declared.Checked.{Checked}
 use Rattle.calls.specs.declared.Planned.{Planned}
 use Rattle.calls.specs.declared.Campaign.{Campaign}
 
@@ -71,16 +72,31 @@ Judges passes g x t = MatchResult t (Passed passes g) (Refused passes x)
 
 -- ---- a sheet that is read
 
--- it reads, and this is what is told of its plan
+-- it reads, its plan is looked at so, and this is what the check says of it, with a place that fits 16 bits
+pub record SheetTold (most : Limits) (s : List ℕ) (c : Checked) : Type 0 where
+  pub reads : is_fine (sheet_within most s).judged ≡ true
+  pub network : c.chart.network ≡ network_within most s
+  pub verdict : c.verdict ≡ check (network_within most s)
+  pub fits : verdict_place c.verdict < 65536
+
+-- or a line of it is at fault, whose number fits too
+pub record SheetUnread (most : Limits) (s : List ℕ) (f : Fault) : Type 0 where
+  pub judged : (sheet_within most s).judged ≡ Err f
+  pub fits : judged_place (Err f) < 65536
+
+abbrev pub SheetRead : Limits → List ℕ → Result Checked Fault → Type 0
+SheetRead most s t = MatchResult t (SheetTold most s) (SheetUnread most s)
+
+-- the same, and its plan but for the links
 pub record PlanTold (most : Limits) (s : List ℕ) (p : Planned) : Type 0 where
   pub reads : is_fine (sheet_within most s).judged ≡ true
   pub outline : p.outline ≡ outline_of (sheet_within most s).plan
   pub network : p.chart.network ≡ network_within most s
   pub verdict : p.verdict ≡ check (network_within most s)
+  pub fits : verdict_place p.verdict < 65536
 
--- or a line of it is at fault
 abbrev pub PlanRead : Limits → List ℕ → Result Planned Fault → Type 0
-PlanRead most s t = MatchResult t (PlanTold most s) (λ f. (sheet_within most s).judged ≡ Err f)
+PlanRead most s t = MatchResult t (PlanTold most s) (SheetUnread most s)
 
 abbrev pub Plans : Limits → List ℕ → Result Planned Refusal → Type 0
 Plans most s t = MatchResult t (PlanTold most s) (Refused (is_fine (sheet_within most s).judged) (judged_bits (sheet_within most s).judged))

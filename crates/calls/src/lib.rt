@@ -2,17 +2,18 @@
 // for C and crate campaign_c exports them; crate partner has the check with smaller limits.
 #![tactic(auto)]
 
-ghost use Rattle.std.specs.Prelude.{◌≡◌, ◌≤◌, ◌<◌, IfErr};
+ghost use Rattle.std.specs.Prelude.{◌≡◌, true, ◌≤◌, ◌<◌, IfErr, MatchResult};
 ghost use Rattle.plan.specs.Limits.{ours};
 ghost use Rattle.plan.specs.Links.{empty_links};
 ghost use Rattle.sheet.specs.Outlined.{links_read};
 ghost use Rattle.run.specs.State.{standing};
 ghost use Rattle.run.specs.Replies.{kept_of};
-ghost use Rattle.guarantee.specs.Answers.{pack, order_bits, place9};
+ghost use Rattle.verdict.specs.Check.{verdict_place};
+ghost use Rattle.guarantee.specs.Answers.{pack, order_bits, place9, check_bits};
 ghost use Rattle.guarantee.specs.Machine.{next_order, replied, reply_to};
 ghost use Rattle.calls.specs.Calls.{network_within, network_in, sheet_passes, passes_within, check_within, order_kind, order_booking, order_way, order_place, check_call, start_call, start_leaves, asked_call, asked_leaves};
 ghost use Rattle.calls.specs.declared.Refusal.TheVariants.{Sheet, Plan};
-ghost use Rattle.calls.specs.Refusals.{refusal_bits, refusal_place, own_bits, answer_bits, Answers, Judges, PlanRead, Plans, Takes};
+ghost use Rattle.calls.specs.Refusals.{refusal_bits, refusal_place, own_bits, answer_bits, Answers, Refused, Judges, SheetRead, PlanRead, Plans, Takes};
 
 use network::{Chart, Network};
 use plan::{Limits, Links, Outline};
@@ -46,8 +47,14 @@ impl From<verdict::Fault> for Refusal {
     }
 }
 
-// A sheet that reads: its plan but for the links, what the rules look at, and what the check says of it.
-// No Result around these: a join takes the outline of a plan that is refused with 8.
+// A sheet that reads: what the rules look at, and what the check says of it. No Result around both: a plan that the check refuses has its chart too.
+#[derive(Clone, Copy)]
+pub struct Checked {
+    pub chart: Chart,
+    pub verdict: Result<(), verdict::Fault>,
+}
+
+// The same, and its plan but for the links: a join takes the outline of a plan that is refused with 8.
 #[derive(Clone, Copy)]
 pub struct Planned {
     pub outline: Outline,
@@ -184,15 +191,15 @@ pub fn judge_plan_within(
     ensures left { (links.new.from ≡ (links_read most sheet.now).from) × (links.new.to ≡ (links_read most sheet.now).to) }
 {
     let outline = sheet::read_outline(sheet, most, links)?;
-    let chart = Chart {
-        network: network::network_of(&outline, links),
-    };
-    let verdict = verdict::check(&chart);
-    Ok(Planned {
+    let network = network::network_of(&outline, links);
+    // checked where it lies: a chart of its own beside it would be copied into it, in every call
+    let mut planned = Planned {
         outline,
-        chart,
-        verdict,
-    })
+        chart: Chart { network },
+        verdict: Ok(()),
+    };
+    planned.verdict = verdict::check(&planned.chart);
+    Ok(planned)
 }
 
 // The same for us.
@@ -205,8 +212,41 @@ pub fn judge_plan(sheet: &[u8], links: &mut Links) -> Result<Planned, Refusal>
     Ok(planned)
 }
 
+impl Checked {
+    // What check answers of it: accepted, or the fault of its plan.
+    pub fn bits(&self) -> u32
+        requires { verdict_place self.now.verdict < 65536 }
+        ensures { result ≡ check_bits self.now.verdict }
+    {
+        match self.verdict {
+            Ok(()) => pack(6, 0, 0),
+            Err(fault) => Refusal::Plan(fault).bits(),
+        }
+    }
+}
+
 // Reads a sheet for a caller with such limits and checks its plan, whose links no one needs any more.
-pub fn judge_within(sheet: &[u8], most: Limits) -> Result<Chart, Refusal>
+pub fn judge_within(sheet: &[u8], most: Limits) -> Result<Checked, plan::Fault>
+    ensures { SheetRead most sheet.now result }
+{
+    let mut links = Links::none();
+    let planned = judge_plan_within(sheet, most, &mut links)?;
+    Ok(Checked {
+        chart: planned.chart,
+        verdict: planned.verdict,
+    })
+}
+
+// Reads a sheet of ours and checks its plan.
+pub fn judge_sheet(sheet: &[u8]) -> Result<Checked, plan::Fault>
+    ensures { SheetRead ours sheet.now result }
+{
+    judge_within(sheet, plan::ours())
+}
+
+// What the rules look at, of a sheet that passes for a caller with such limits. It asks for the plan itself: by way of a `Checked` the chart would be
+// copied once more, in every call.
+pub fn chart_within(sheet: &[u8], most: Limits) -> Result<Chart, Refusal>
     ensures { Judges (passes_within most sheet.now) (network_within most sheet.now) (check_within most sheet.now) result }
 {
     let mut links = Links::none();
@@ -215,20 +255,33 @@ pub fn judge_within(sheet: &[u8], most: Limits) -> Result<Chart, Refusal>
     Ok(planned.chart)
 }
 
-// Reads a sheet of ours and checks its plan.
-pub fn judge_sheet(sheet: &[u8]) -> Result<Chart, Refusal>
+// The same of a sheet of ours that passes.
+pub fn chart_of(sheet: &[u8]) -> Result<Chart, Refusal>
     ensures { Judges (sheet_passes sheet.now) (network_in sheet.now) (check_call sheet.now) result }
 {
-    judge_within(sheet, plan::ours())
+    chart_within(sheet, plan::ours())
 }
 
 // ---- sheets
+
+// Whether a sheet passes for a caller with such limits. It hands out no plan, as a check needs none: the partner's gateway has little stack.
+fn examine(sheet: &[u8], most: Limits) -> Result<(), Refusal>
+    ensures { MatchResult result (λ u. passes_within most sheet.now ≡ true) (Refused (passes_within most sheet.now) (check_within most sheet.now)) }
+{
+    let mut links = Links::none();
+    let outline = sheet::read_outline(sheet, most, &mut links)?;
+    let chart = Chart {
+        network: network::network_of(&outline, &links),
+    };
+    verdict::check(&chart)?;
+    Ok(())
+}
 
 // Judges a sheet for a caller with such limits: accepted, or the first of refusals 1 to 8 and 16 with its place.
 pub fn check_within(sheet: &[u8], most: Limits) -> u32
     ensures { result ≡ check_within most sheet.now }
 {
-    bits_of(judge_within(sheet, most).and(Ok(pack(6, 0, 0))))
+    bits_of(examine(sheet, most).and(Ok(pack(6, 0, 0))))
 }
 
 // Judges a sheet: accepted, or the first of refusals 1 to 8 with its place.
@@ -245,7 +298,7 @@ fn begin(sheet: &[u8], state: &mut [u8]) -> Result<u32, Refusal>
     ensures answer { Answers (start_call sheet.now state.old) result }
     ensures left { state.new ≡ start_leaves sheet.now state.old }
 {
-    judge_sheet(sheet)?;
+    chart_of(sheet)?;
     if state.len() != 65 {
         return Err(Refusal::State);
     }
@@ -265,7 +318,7 @@ pub fn start(sheet: &[u8], state: &mut [u8]) -> u32
 pub fn take_up(sheet: &[u8], state: &[u8]) -> Result<Campaign, Refusal>
     ensures { Takes sheet.now state.now result }
 {
-    let chart = judge_sheet(sheet)?;
+    let chart = chart_of(sheet)?;
     if state.len() != 65 {
         return Err(Refusal::State);
     }

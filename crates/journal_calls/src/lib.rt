@@ -75,7 +75,7 @@ fn restarted(sheet: &[u8], journal: &[u8], state: &mut [u8]) -> Result<u32, Refu
     ensures answer { Answers (restart_call sheet.now journal.now state.old) result }
     ensures left { state.new ≡ restart_leaves sheet.now journal.now state.old }
 {
-    let chart = calls::judge_sheet(sheet)?;
+    let chart = calls::chart_of(sheet)?;
     if state.len() != 65 {
         return Err(Refusal::State);
     }

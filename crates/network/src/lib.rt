@@ -106,7 +106,8 @@ fn desks_of(desk: &[u8; 64], n: usize) -> [u64; 8]
     at
 }
 
-// What the rules look at in a plan, whose links stand beside it.
+// What the rules look at in a plan, whose links stand beside it. A function of its own in the archives: put into its callers, their stack held its lists too.
+#[inline(never)]
 pub fn network_of(o: &Outline, links: &Links) -> Network
     requires { (o.now.n ≤ 64) × Ends o.now.n links.now.from links.now.to o.now.m × Seated o.now.n o.now.desk }
     ensures { result ≡ network_of (plan_of o.now links.now.from links.now.to) }

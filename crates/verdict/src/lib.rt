@@ -135,39 +135,33 @@ fn take_from_members(stay: &mut [u64; 64], up: u64, b: u64)
 }
 
 // For each booking all firm ones.
-fn firm_for_each(chart: &Chart) -> [u64; 64]
-    ensures { (x : ℕ) → x < chart.now.network.n → get_or result x 0 ≡ bit_and chart.now.network.firm (all_below chart.now.network.n) }
+fn firm_for_each(chart: &Chart, stay: &mut [u64; 64])
+    ensures size { length stay.new ≡ 64 }
+    ensures firm { (x : ℕ) → x < chart.now.network.n → get_or stay.new x 0 ≡ bit_and chart.now.network.firm (all_below chart.now.network.n) }
 {
     let g = &chart.network;
-    let firm = g.firm & sets::all_below(g.n);
-    let mut stay = [0u64; 64];
-    stay[..g.n].fill(firm);
-    stay
-}
-
-// The two lists, with which every way is looked at. A firm booking is taken out where it may not stay, and not put in where it may, as of two bookings at
-// most one precedes the other.
-fn spans_of(chart: &Chart) -> Spans
-    ensures { SpansOf chart.now.network result }
-{
-    let g = &chart.network;
-    let mut spans = Spans {
-        upto: [0; 64],
-        stay: firm_for_each(chart),
-    };
-    // by index: it names a booking in two arrays, and in the set of the firm ones
-    for s in 0..g.n {
-        let b = sets::bit(s);
-        let up = g.before[s] | b;
-        spans.upto[s] = up;
-        if sets::has(g.firm, s) {
-            take_from_members(&mut spans.stay, up, b);
-        }
-    }
-    spans
+    stay[..g.n].fill(g.firm & sets::all_below(g.n));
 }
 
 impl Spans {
+    // Fills both lists, in place: given back they would be copied. A firm booking is taken out where it may not stay, and not put in where it may, as of
+    // two bookings at most one precedes the other.
+    fn find(&mut self, chart: &Chart)
+        ensures { SpansOf chart.now.network self.new }
+    {
+        let g = &chart.network;
+        firm_for_each(chart, &mut self.stay);
+        // by index: it names a booking in two arrays, and in the set of the firm ones
+        for s in 0..g.n {
+            let b = sets::bit(s);
+            let up = g.before[s] | b;
+            self.upto[s] = up;
+            if sets::has(g.firm, s) {
+                take_from_members(&mut self.stay, up, b);
+            }
+        }
+    }
+
     // The bookings that precede x, or equal or precede every member of S, which is s.
     fn settled_by(&self, chart: &Chart, k: usize, x: usize, s: u64) -> u64
         requires { SpansOf chart.now.network self.now × (x < chart.now.network.n) × (s ≡ staying chart.now.network (suc k) x) }
@@ -234,7 +228,11 @@ fn first_stranding(chart: &Chart) -> Result<(), Fault>
     if chart.network.firm == 0 {
         return Ok(());
     }
-    let spans = spans_of(chart);
+    let mut spans = Spans {
+        upto: [0; 64],
+        stay: [0; 64],
+    };
+    spans.find(chart);
     for k in 0..chart.network.a {
         if let Some(x) = spans.lowest_stranding(chart, k) {
             return Err(Fault::Stranding(k + 1, x));
@@ -243,7 +241,8 @@ fn first_stranding(chart: &Chart) -> Result<(), Fault>
     Ok(())
 }
 
-// The check: the first fault, in the order of the refusals.
+// The check: the first fault, in the order of the refusals. A function of its own in the archives, for the stack, as `network_of` is.
+#[inline(never)]
 pub fn check(chart: &Chart) -> Result<(), Fault>
     ensures { result ≡ check chart.now.network }
 {

@@ -1,8 +1,6 @@
 -- What is left of `calls::judge_sheet`.
 -- Assumes nothing.
-use Rattle.calls.specs.Calls.{sheet_passes}
 use Rattle.calls.proofs.judge_sheet.Goals as goal
 
 pub returns : goal.returns
-unfolding sheet_passes
 returns c = rw c.ours.ensures at c.judge_within.ensures
