@@ -12,8 +12,8 @@ use borrow.Author.Tests.{eq-eqb, ne_eqb}
 use Rattle.std.specs.Prelude.{Result, Ok, Err, IsErrAnd, Some, None}
 use Rattle.bounded.proofs.Bools.{which, clash, and_l, and_r, ◌&◌, and-no-l, and-no-r}
 use Rattle.plan.specs.Limits.{ours}
-use Rattle.plan.specs.Judging.{Judged, is_fine, judged_place}
-use Rattle.plan.specs.Outline.{plan_of}
+use Rattle.plan.specs.Judging.{Judged, is_fine}
+use Rattle.plan.specs.Outline.{plan_of, outline_of}
 use Rattle.plan.specs.declared.Fault.{Fault}
 use Rattle.plan.specs.declared.Limits.{Limits}
 use Rattle.plan.specs.declared.Outline.{Outline}
@@ -49,7 +49,7 @@ use Rattle.calls.specs.declared.Checked.{Checked}
 use Rattle.calls.specs.declared.Planned.{Planned}
 use Rattle.calls.specs.declared.Campaign.{Campaign}
 use Rattle.calls.specs.Calls.{network_within, network_in, passes, passes_within, sheet_passes, judged_bits, check_within, check_call, start_call, start_leaves, asked_call, asked_leaves, in_order, refused_with}
-use Rattle.calls.specs.Refusals.{refusal_bits, refusal_place, Answers, Refused, Passed, SheetTold, SheetUnread, SheetRead, PlanTold, Stood, TakenUp}
+use Rattle.calls.specs.Refusals.{refusal_bits, refusal_place, Answers, Judges, Refused, Passed, SheetTold, SheetUnread, SheetRead, PlanTold, Stood, TakenUp}
 
 -- what a `?` gives on is the refusal that it found
 pub on-err : {A E : Type 0} (P : Result A E → Type 0) (r : Result A E) (x : E) → IsErrAnd r (λ e. e ≡ x) → P (Err x) → P r
@@ -77,13 +77,21 @@ given-fine (Ok u) p q e = cc
 given-fine (Err g) p q e = absurd (cc)
 
 module _ (most : Limits) (s : List ℕ) where
-  -- a line of it is refused
-  pub unread : (f : Fault) → Err f ≡ outlined_of (sheet_within most s) → SheetUnread most s f
-  unread f e = let j = told-fault (sheet_within most s).judged _ f e in record { judged = j; fits = rw j at (sheet-small most s) }
+  -- a line of it is refused, and its number fits
+  pub unread-fits : (f : Fault) → (sheet_within most s).judged ≡ Err f → SheetUnread most s f
+  unread-fits f j = record { judged = j; fits = rw j at (sheet-small most s) }
 
-  pub unread-refused : (f : Fault) → SheetUnread most s f → Refused (is_fine (sheet_within most s).judged) (judged_bits (sheet_within most s).judged) (NoSheet f)
+  pub unread : (f : Fault) → Err f ≡ outlined_of (sheet_within most s) → SheetUnread most s f
+  unread f e = unread-fits f (told-fault (sheet_within most s).judged _ f e)
+
+  pub unread-refused : (f : Fault) → (sheet_within most s).judged ≡ Err f → Refused (is_fine (sheet_within most s).judged) (judged_bits (sheet_within most s).judged) (NoSheet f)
   unfolding refusal_bits refusal_place
-  unread-refused f u = record { fails = rw u.judged refl; bits = rw u.judged refl; fits = u.fits }
+  unread-refused f j = record { fails = rw j refl; bits = rw j refl; fits = (unread-fits f j).fits }
+
+  -- what is told of a plan is told with a place that fits
+  pub plan-fits : (p : Planned) → is_fine (sheet_within most s).judged ≡ true → p.outline ≡ outline_of (sheet_within most s).plan → p.chart.network ≡ network_within most s
+      → p.verdict ≡ check (network_within most s) → PlanTold most s p
+  plan-fits p r o n v = record { reads = r; outline = o; network = n; verdict = v; fits = rw (v, ← n) (verdict-small p.chart.network p.chart.few_bookings p.chart.few_ways) }
 
   -- it reads, and its links stand beside its plan
   module _ (o : Outline) (us vs : List ℕ) (e : Ok o ≡ outlined_of (sheet_within most s)) (eu : us ≡ (links_read most s).from) (ev : vs ≡ (links_read most s).to) where
@@ -110,13 +118,7 @@ module _ (most : Limits) (s : List ℕ) where
       told-of v q = record { reads = fine; network = network-read; verdict = q ∙ ap check network-read; fits = rw q (verdict-small g can-check.0 can-check.1) }
 
       pub plan-told : (c : Chart) (v : Verdict) → c.network ≡ g → v ≡ check c.network → PlanTold most s (record { outline = o; chart = c; verdict = v })
-      plan-told c v ec q = record {
-        reads = fine;
-        outline = (told-fine (sheet_within most s).judged _ o e).1;
-        network = ec ∙ network-read;
-        verdict = q ∙ ap check (ec ∙ network-read);
-        fits = rw q (verdict-small c.network c.few_bookings c.few_ways);
-      }
+      plan-told c v ec q = plan-fits _ fine (told-fine (sheet_within most s).judged _ o e).1 (ec ∙ network-read) (q ∙ ap check (ec ∙ network-read))
 
 -- ---- a sheet that is judged
 
@@ -158,36 +160,54 @@ module _ (most : Limits) (s : List ℕ) where
   pub sheet-told : (p : Planned) → PlanTold most s p → SheetTold most s (record { chart = p.chart; verdict = p.verdict })
   sheet-told p t = record { reads = t.reads; network = t.network; verdict = t.verdict; fits = t.fits }
 
-  -- the 32 bits of what was judged
-  abbrev pub judged-answer : Result Checked Fault → ℕ
-  judged-answer (Ok p) = check_bits p.verdict
-  judged-answer (Err f) = judged_bits (Err f)
+  -- the 32 bits of a sheet that was read or not
+  abbrev pub sheet-answer : Result Checked Fault → ℕ
+  sheet-answer (Ok p) = check_bits p.verdict
+  sheet-answer (Err f) = judged_bits (Err f)
 
   -- are the answer of check
-  pub bits_is : (t : Result Checked Fault) → SheetRead most s t → judged-answer t ≡ check_within most s
+  pub sheet-bits : (t : Result Checked Fault) → SheetRead most s t → sheet-answer t ≡ check_within most s
   unfolding check_within
-  bits_is (Ok p) t = rw (t.reads, t.verdict) refl
-  bits_is (Err f) u = rw u.judged refl
+  sheet-bits (Ok p) t = rw (t.reads, t.verdict) refl
+  sheet-bits (Err f) u = rw u.judged refl
 
   module _ (p : Checked) (t : SheetTold most s p) where
     -- the fault of a plan that is read, as an answer
-    pub fault-refused : (f : PlanFault) → p.verdict ≡ Err f → Refused (passes_within most s) (check_within most s) (NoPlan f)
+    pub told-refused : (f : PlanFault) → p.verdict ≡ Err f → Refused (passes_within most s) (check_within most s) (NoPlan f)
     unfolding refusal_bits refusal_place
-    fault-refused f e =
+    told-refused f e =
         let q : check (network_within most s) ≡ Err f = sym t.verdict ∙ e in
         record {
           fails = and-no-r (is_fine (sheet_within most s).judged) _ (ap passes q ∙ fault-fails f);
-          bits = rw e at (bits_is (Ok p) t);
+          bits = rw e at (sheet-bits (Ok p) t);
           fits = rw e at t.fits;
         }
 
+    pub told-passed : (u : Unit {0}) → p.verdict ≡ Ok u → Passed (passes_within most s) (network_within most s) p.chart
+    told-passed u e = record { holds = t.reads & (ap passes (sym t.verdict ∙ e) ∙ fine-passes); network = t.network }
+
+  -- the same of a plan
+  module _ (p : Planned) (t : PlanTold most s p) where
+    pub fault-refused : (f : PlanFault) → p.verdict ≡ Err f → Refused (passes_within most s) (check_within most s) (NoPlan f)
+    fault-refused = told-refused _ (sheet-told p t)
+
     pub fine-passed : (u : Unit {0}) → p.verdict ≡ Ok u → Passed (passes_within most s) (network_within most s) p.chart
-    fine-passed u e = record { holds = t.reads & (ap passes (sym t.verdict ∙ e) ∙ fine-passes); network = t.network }
+    fine-passed = told-passed _ (sheet-told p t)
 
   -- a sheet that passes is accepted
   pub accepts : passes_within most s ≡ true → check_within most s ≡ pack 6 0 0
   unfolding check_within check_bits passes
   accepts e = rw (and_l (is_fine (sheet_within most s).judged) _ e, and_r (is_fine (sheet_within most s).judged) _ e) refl
+
+  -- the 32 bits of what was judged
+  abbrev pub judged-answer : Result Chart Refusal → ℕ
+  judged-answer (Ok c) = pack 6 0 0
+  judged-answer (Err r) = refusal_bits r
+
+  -- are the answer of check
+  pub bits_is : (t : Result Chart Refusal) → Judges (passes_within most s) (network_within most s) (check_within most s) t → judged-answer t ≡ check_within most s
+  bits_is (Ok c) j = sym (accepts j.holds)
+  bits_is (Err r) j = j.bits
 
 -- ---- our sheet
 

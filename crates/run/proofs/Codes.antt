@@ -18,11 +18,15 @@ use Rattle.run.specs.Codes.{code_after}
 use Rattle.run.specs.Replies.{Y, N, G, K, settle, after_no, fits, misfits, kept_of, reply, Replied}
 use Rattle.run.specs.declared.Run.{Run}
 
--- the code that a reply gives its booking, and the state after it; it is no code past lost
-pub data Coded (g : Network) (r : Run) (b : ℕ) : Option ℕ → Replied → Type 0 where
-  misfit : Coded g r b None (misfits r)
-  decided : (c : ℕ) → c ≤ lost → code r b ≡ requested → Coded g r b (Some c) (fits (settle g (put r b c)))
-  given_back : (c : ℕ) → c ≤ lost → code r b ≡ returning → Coded g r b (Some c) (fits (put r b c))
+-- the code that a reply gives its booking, and the state after it, with what is known of that code
+pub data CodedAs (known : ℕ → Type 0) (g : Network) (r : Run) (b : ℕ) : Option ℕ → Replied → Type 0 where
+  misfit : CodedAs known g r b None (misfits r)
+  decided : (c : ℕ) → known c → code r b ≡ requested → CodedAs known g r b (Some c) (fits (settle g (put r b c)))
+  given_back : (c : ℕ) → known c → code r b ≡ returning → CodedAs known g r b (Some c) (fits (put r b c))
+
+-- it is no code past lost
+abbrev pub Coded : Network → Run → ℕ → Option ℕ → Replied → Type 0
+Coded = CodedAs (λ c. c ≤ lost)
 
 pub by_code : (g : Network) (r : Run) (l b : ℕ) → b < g.n → Coded g r b (code_after (code r b) l (exposed g b)) (reply g r l b)
 unfolding reply code_after after_no code code_is
@@ -42,19 +46,19 @@ by_code g r l b h =
       ])
     ])
 
--- one that does not fit, a return's and a request's
+-- one that does not fit, a return's and a request's, whatever is known of the code
 module _ (g : Network) (r : Run) (b : ℕ) where
-  pub by-misfit : {o : Option ℕ} {t : Replied} → Coded g r b o t → o ≡ None → t ≡ misfits r
+  pub by-misfit : {o : Option ℕ} {t : Replied} {known : ℕ → Type 0} → CodedAs known g r b o t → o ≡ None → t ≡ misfits r
   by-misfit misfit e = cc
   by-misfit (decided d s h) e = absurd (cc)
   by-misfit (given_back d s h) e = absurd (cc)
 
-  pub by-return : {o : Option ℕ} {t : Replied} → Coded g r b o t → (c : ℕ) → o ≡ Some c → code r b ≢ requested → t ≡ fits (put r b c)
+  pub by-return : {o : Option ℕ} {t : Replied} {known : ℕ → Type 0} → CodedAs known g r b o t → (c : ℕ) → o ≡ Some c → code r b ≢ requested → t ≡ fits (put r b c)
   by-return misfit c e q = absurd (cc)
   by-return (decided d s h) c e q = absurd (q h)
   by-return (given_back d s h) c e q = cc
 
-  pub by-request : {o : Option ℕ} {t : Replied} → Coded g r b o t → (c : ℕ) → o ≡ Some c → code r b ≢ returning → t ≡ fits (settle g (put r b c))
+  pub by-request : {o : Option ℕ} {t : Replied} {known : ℕ → Type 0} → CodedAs known g r b o t → (c : ℕ) → o ≡ Some c → code r b ≢ returning → t ≡ fits (settle g (put r b c))
   by-request misfit c e q = absurd (cc)
   by-request (decided d s h) c e q = let z : d ≡ c = cc in rw z
   by-request (given_back d s h) c e q = absurd (q h)

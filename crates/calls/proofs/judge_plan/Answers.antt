@@ -8,4 +8,4 @@ use Rattle.calls.proofs.judge_plan.Goals as goal
 pub returns-in_err-planned-clause-told : goal.returns-in_err-planned-clause-told
 returns-in_err-planned-clause-told c =
     let s = c.args.sheet.now in
-    on-err (Plans ours s) _ _ c.from_residual.ensures.1 (unread-refused ours s _ (rw c.ours.ensures at c.in_err-planned.ensures.told))
+    on-err (Plans ours s) _ _ c.from_residual.ensures.1 (unread-refused ours s _ (rw c.ours.ensures at c.in_err-planned.ensures.told).judged)
